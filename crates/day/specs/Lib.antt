@@ -1,0 +1,5 @@
+pub mod Bills
+pub mod File
+pub mod Rules
+pub mod Reading
+pub mod Promise
