@@ -1,2 +1,5 @@
 pub mod Firsts
+pub mod Refused
 pub mod Rows
+pub mod Taken
+pub mod Turns

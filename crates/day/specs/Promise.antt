@@ -3,18 +3,31 @@ use mathlib.Core.Path.{_≡_}
 use mathlib.Core.List.{List}
 use mathlib.Core.Logic.{_⊎_, _≢_}
 use Prim.Native.Nat.{ℕ, _+_, _*_, _^_, _≤_, _<_}
-use lib.ListN.{length, getD}
+use lib.ListN.{length}
+use Rattle.std.specs.Places.{At}
+use Rattle.std.specs.declared.result.Result.{Result}
+use Rattle.std.specs.declared.result.Result.the-variants.{Ok, Err}
 use Rattle.day.specs.declared.invoices.Invoice.{Invoice}
+use Rattle.day.specs.declared.invoices.Rule.{Rule}
+use Rattle.day.specs.declared.invoices.Rule.the-variants.{FirmsThere, TwoFirms, AmountInRange}
 use Rattle.day.specs.declared.refusals.Kind.the-variants.{Invoices, Numbers, Rings}
 use Rattle.day.specs.declared.refusals.Refusal.{Refusal}
 use Rattle.day.specs.declared.refusals.Refusal.the-variants.{Firms, Length, NoFirm, ToItself, Amount, Memory}
 use Rattle.day.specs.declared.sizes.Room.{Room}
+use Rattle.day.specs.declared.sizes.Size.{Size}
+use Rattle.day.specs.Bills.{Sound, reads}
 use Rattle.day.specs.File.{firms-in, whole, invoices-in}
 use Rattle.day.specs.Rules.{place-of, kind-of}
 
--- P of the invoice at place e, which is there
-abbrev pub At : List Invoice → ℕ → (Invoice → Type 0) → Type 0
-At is e P = (e < length is) × ((none : Invoice) → P (getD is e none))
+-- what breaks a rule for invoices, on a day of n firms
+abbrev pub Fault : Rule → ℕ → Invoice → Type 0
+Fault FirmsThere n i = (n ≤ i .from) ⊎ (n ≤ i .to)
+Fault TwoFirms n i = i .from ≡ i .to
+Fault AmountInRange n i = (i .amount ≡ 0) ⊎ (10 ^ 12 < i .amount)
+
+-- invoice e is there, and breaks the rule
+abbrev pub Faulty : Rule → ℕ → List Invoice → ℕ → Type 0
+Faulty r n is e = (e < length is) × At (Fault r n) is e
 
 -- the rule of a refusal is broken at its place
 abbrev pub Broken : Room → List ℕ → Refusal → Type 0
@@ -23,9 +36,9 @@ Broken room b (Memory Invoices) = room .invoices < whole b
 Broken room b (Memory Numbers) = room .numbers < firms-in b
 Broken room b (Memory Rings) = room .rings < firms-in b + 2
 Broken room b (Length p) = (p ≡ length b) × ((k : ℕ) → k ≤ 4096 → length b ≢ 2 + 12 * k)
-Broken room b (NoFirm e) = At (invoices-in b) e (λ i. (firms-in b ≤ i .from) ⊎ (firms-in b ≤ i .to))
-Broken room b (ToItself e) = At (invoices-in b) e (λ i. i .from ≡ i .to)
-Broken room b (Amount e) = At (invoices-in b) e (λ i. (i .amount ≡ 0) ⊎ (10 ^ 12 < i .amount))
+Broken room b (NoFirm e) = Faulty FirmsThere (firms-in b) (invoices-in b) e
+Broken room b (ToItself e) = Faulty TwoFirms (firms-in b) (invoices-in b) e
+Broken room b (Amount e) = Faulty AmountInRange (firms-in b) (invoices-in b) e
 
 -- the rules' order: number 1, then 9 kind by kind, then 2, 3, 4 and 5
 abbrev pub turn : Refusal → ℕ
@@ -44,3 +57,12 @@ Before q r = (turn q < turn r) ⊎ ((turn q ≡ turn r) × (place-of q < place-o
 pub record First (room : Room) (b : List ℕ) (r : Refusal) : Type 0 where
   pub broken : Broken room b r
   pub none-before : (q : Refusal) → Before q r → Broken room b q → ⊥
+
+-- an answer refuses a file exactly with the first refusal
+abbrev pub Refuses : {A : Type 0} → Room → List ℕ → Result A Refusal → Type 0
+Refuses room b answer = (r : Refusal) → (answer ≡ Err r → First room b r) × (First room b r → answer ≡ Err r)
+
+-- an answer takes a file only where the rows then hold a sound day
+abbrev pub Takes : Result Size Refusal → List ℕ → List ℕ → List ℕ → Type 0
+Takes (Ok s) from to amount = Sound (s .firms) (s .invoices) (reads from) (reads to) (reads amount)
+Takes (Err r) from to amount = Unit {0}

@@ -71,12 +71,16 @@ answered (Some r) x = Err r
 abbrev pub size-in : List ℕ → Size
 size-in b = record { firms = firms-in b; invoices = whole b }
 
--- what a lent row holds after: as it was where the day is refused, else the new numbers and, past them, as it was
-abbrev pub row-after : Option Refusal → List ℕ → List ℕ → List ℕ
-row-after None new old = new ++ drop (length new) old
-row-after (Some r) new old = old
+-- a lent row with new numbers in its first places and, past them, as it was
+abbrev pub row-read : List ℕ → List ℕ → List ℕ
+row-read new old = new ++ drop (length new) old
 
--- the room of lent memory in which the invoices' rows have these lengths too
-abbrev pub room-with : Room → ℕ → ℕ → ℕ → Room
-room-with room f t a =
-    record { invoices = min (min (min (room .invoices) f) t) a; numbers = room .numbers; rings = room .rings }
+-- what a lent row holds after an answer: where the day is refused, it is as it was
+abbrev pub row-after : {A : Type 0} → Result A Refusal → List ℕ → List ℕ → List ℕ
+row-after (Ok x) new old = row-read new old
+row-after (Err r) new old = old
+
+-- the room of lent memory of which these rows for invoices are a part
+abbrev pub room-with : Room → List ℕ → List ℕ → List ℕ → Room
+room-with room from to amount =
+    record { invoices = min (min (min (room .invoices) (length from)) (length to)) (length amount); numbers = room .numbers; rings = room .rings }

@@ -9,7 +9,7 @@ pub use invoices::Invoice;
 pub use invoices::MOST_CENTS;
 pub use invoices::Rule;
 pub use layout::whole_invoices;
-// pub use reader::read;
+pub use reader::read;
 pub use refusals::Kind;
 pub use refusals::Refusal;
 pub use sizes::MOST_FIRMS;

@@ -8,8 +8,9 @@ ghost use lib.ListN.{length};
 ghost use Rattle.std.specs.declared.option.Option.the-variants.{Some, None};
 ghost use Rattle.std.specs.declared.result.Result.the-variants.{Ok, Err};
 ghost use Rattle.day.specs.declared.invoices.Rule.the-variants.{FirmsThere, TwoFirms, AmountInRange};
+ghost use Rattle.day.specs.Promise.{Refuses, Takes};
 ghost use Rattle.day.specs.File.{firms-in, whole, invoices-in, from-row, to-row, amount-row};
-ghost use Rattle.day.specs.Reading.{no-firms, no-rows, by-room, by-rule, by-rules, refusal-in, answered, size-in, row-after, room-with};
+ghost use Rattle.day.specs.Reading.{no-firms, no-rows, by-room, by-rule, by-rules, refusal-in, answered, size-in, row-read, row-after, room-with};
 use crate::invoices::Invoice;
 use crate::invoices::Rule;
 use crate::layout::invoice_at;
@@ -30,7 +31,11 @@ fn firms_of(file: &[u8]) -> Option<u16>
         return None;
     };
     let firms = u16::from_le_bytes([*low, *high]);
-    if firms == 0 || firms > MOST_FIRMS { None } else { Some(firms) }
+    if firms == 0 || firms > MOST_FIRMS {
+        None
+    } else {
+        Some(firms)
+    }
 }
 
 // The number of invoices, if the file has twelve bytes for each and they are not too many.
@@ -38,7 +43,11 @@ fn invoices_of(file: &[u8]) -> Option<usize>
     ensures { λ r. ⌜ r ≡ cond (no-rows (now (file .entry))) None (Some (whole (now (file .entry)))) ⌝ }
 {
     let invoices = whole_invoices(file);
-    if file.len() != 2 + 12 * invoices || invoices > MOST_INVOICES { None } else { Some(invoices) }
+    if file.len() != 2 + 12 * invoices || invoices > MOST_INVOICES {
+        None
+    } else {
+        Some(invoices)
+    }
 }
 
 // The places that are needed, if so many are lent.
@@ -106,9 +115,9 @@ fn fill(file: &[u8], from: &mut [u16], to: &mut [u16], amount: &mut [u64])
     requires from_room { ⌜ whole (now file) ≤ length (now from) ⌝ }
     requires to_room { ⌜ whole (now file) ≤ length (now to) ⌝ }
     requires amount_room { ⌜ whole (now file) ≤ length (now amount) ⌝ }
-    ensures from { λ _. ⌜ now (from .exit) ≡ row-after None (from-row (now (file .entry))) (now (from .entry)) ⌝ }
-    ensures to { λ _. ⌜ now (to .exit) ≡ row-after None (to-row (now (file .entry))) (now (to .entry)) ⌝ }
-    ensures amount { λ _. ⌜ now (amount .exit) ≡ row-after None (amount-row (now (file .entry))) (now (amount .entry)) ⌝ }
+    ensures from { λ _. ⌜ now (from .exit) ≡ row-read (from-row (now (file .entry))) (now (from .entry)) ⌝ }
+    ensures to { λ _. ⌜ now (to .exit) ≡ row-read (to-row (now (file .entry))) (now (to .entry)) ⌝ }
+    ensures amount { λ _. ⌜ now (amount .exit) ≡ row-read (amount-row (now (file .entry))) (now (amount .entry)) ⌝ }
 {
     for e in 0..whole_invoices(file) {
         let invoice = invoice_at(file, e);
@@ -116,4 +125,33 @@ fn fill(file: &[u8], from: &mut [u16], to: &mut [u16], amount: &mut [u64])
         to[e] = invoice.to;
         amount[e] = invoice.amount;
     }
+}
+
+// Reads a day into the first places of three lent rows. Of the other lent memory only its room is looked at:
+// `room` counts the places in the invoices' other rows, in the firms' rows, and for rings.
+pub fn read(
+    file: &[u8],
+    from: &mut [u16],
+    to: &mut [u16],
+    amount: &mut [u64],
+    room: Room,
+) -> Result<Size, Refusal>
+    ensures answer { λ r. ⌜ r ≡ answered (refusal-in (room-with room (now (from .entry)) (now (to .entry)) (now (amount .entry))) (now (file .entry))) (size-in (now (file .entry))) ⌝ }
+    ensures refused { λ r. ⌜ Refuses (room-with room (now (from .entry)) (now (to .entry)) (now (amount .entry))) (now (file .entry)) r ⌝ }
+    ensures taken { λ r. ⌜ Takes r (now (from .exit)) (now (to .exit)) (now (amount .exit)) ⌝ }
+    ensures from { λ r. ⌜ now (from .exit) ≡ row-after r (from-row (now (file .entry))) (now (from .entry)) ⌝ }
+    ensures to { λ r. ⌜ now (to .exit) ≡ row-after r (to-row (now (file .entry))) (now (to .entry)) ⌝ }
+    ensures amount { λ r. ⌜ now (amount .exit) ≡ row-after r (amount-row (now (file .entry))) (now (amount .entry)) ⌝ }
+{
+    let room = Room {
+        invoices: room.invoices
+            .min(from.len())
+            .min(to.len())
+            .min(amount.len()),
+        numbers: room.numbers,
+        rings: room.rings,
+    };
+    let size = check(file, room)?;
+    fill(file, from, to, amount);
+    Ok(size)
 }

@@ -12,7 +12,7 @@ use Rattle.day.proofs.reader.each_keeps.Needs as need
 pub returns-in-rest : need.returns-in-rest
 returns-in-rest c =
     let broke : breaks (c .args .rule) (c .args .firms) (invoice-at (c .args .file .now) (c .loop-e .e)) ≡ true
-      = ap (breaks (c .args .rule) (c .args .firms)) (sym (c .invoice-at .ensures)) ∙ true-from-none _ _ _ (c .in-rest .is) (c .kept .ensures) in
+    = ap (breaks (c .args .rule) (c .args .firms)) (sym (c .invoice-at .ensures)) ∙ true-from-none _ _ _ (c .in-rest .is) (c .kept .ensures) in
     let h = by-rule-some (c .args .rule) (c .args .firms) (c .args .file .now) (c .loop-e .e) (omega arith) (c .loop-e .inv) broke in
     ap Err (c .refusal .ensures) ∙ sym (ap (λ o. answered o (whole (c .args .file .now))) h)
 
