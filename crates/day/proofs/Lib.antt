@@ -3,3 +3,4 @@ pub mod Refused
 pub mod Rows
 pub mod Taken
 pub mod Turns
+pub mod Written

@@ -27,6 +27,7 @@ use Rattle.day.specs.Rules.{breaks, refusal-by, place-of}
 use Rattle.day.specs.Reading.{if-so, first, by-rule, by-rules, by-room, no-firms, no-rows, refusal-in, answered}
 use Rattle.day.specs.Promise.{Fault, Faulty, Broken, First, Refuses, turn, Before}
 use Rattle.day.proofs.Firsts.{Found, found}
+use Rattle.day.proofs.Rows.{blank}
 use Rattle.day.proofs.Turns.{Finds, finds-if, finds-next, finds-first, told-at, turn-below}
 
 decides-leb : (a b : ℕ) → Decides (leb a b) (a ≤ b)
@@ -36,10 +37,6 @@ pub decides-breaks : (r : Rule) (n : ℕ) (i : Invoice) → Decides (breaks r n 
 decides-breaks FirmsThere n i = decides-or _ _ (decides-leb n (i .from)) (decides-leb n (i .to))
 decides-breaks TwoFirms n i = decides-eqb (i .from) (i .to)
 decides-breaks AmountInRange n i = decides-or _ _ (decides-eqb (i .amount) 0) (decides-ltb _ (i .amount))
-
--- any invoice, for the places past a list
-blank : Invoice
-blank = record { from = 0; to = 0; amount = 0 }
 
 -- a rule for invoices
 module _ (B : Refusal → Type 0) (r : Rule) (n t : ℕ) (is : List Invoice) (turns : (e : ℕ) → turn (refusal-by r e) ≡ t)

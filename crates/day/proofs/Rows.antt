@@ -10,6 +10,10 @@ use Rattle.std.proofs.shelf.Counted.{length-map-counting, getD-map-counting, ma
 use Rattle.day.specs.declared.invoices.Invoice.{Invoice}
 use Rattle.day.specs.File.{invoice-at, invoices-in, whole}
 
+-- any invoice, for the places past a list
+abbrev pub blank : Invoice
+blank = record { from = 0; to = 0; amount = 0 }
+
 pub length-invoices-in : (b : List ℕ) → length (invoices-in b) ≡ whole b
 unfolding invoices-in
 length-invoices-in b = length-map-counting (invoice-at b) 0 (whole b)

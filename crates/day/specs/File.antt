@@ -1,6 +1,6 @@
 -- What a day's file says: how many firms there are, and the invoices, numbers with the low byte first. Assumes nothing.
 use mathlib.Core.List.{List, [], _∷_, _++_, map}
-use Prim.Native.Nat.{ℕ, _+_, _-_, _*_, _/_, _%_, _^_}
+use Prim.Native.Nat.{ℕ, _+_, _-_, _*_, _/_, _%_, _^_, _<_}
 use lib.ListN.{length, getD}
 use Rattle.std.specs.Iters.{counting}
 use Rattle.std.specs.Joined.{joined}
@@ -50,6 +50,12 @@ abbrev pub eight-bytes : ℕ → List ℕ
 eight-bytes x =
     x % 256 ∷ x / 256 % 256 ∷ x / 256 ^ 2 % 256 ∷ x / 256 ^ 3 % 256
     ∷ x / 256 ^ 4 % 256 ∷ x / 256 ^ 5 % 256 ∷ x / 256 ^ 6 % 256 ∷ x / 256 ^ 7 % 256 ∷ []
+
+-- an invoice's numbers have two, two and eight bytes
+pub record Fits (i : Invoice) : Type 0 where
+  pub from : i .from < 256 ^ 2
+  pub to : i .to < 256 ^ 2
+  pub amount : i .amount < 256 ^ 8
 
 abbrev pub invoice-bytes : Invoice → List ℕ
 invoice-bytes i = two-bytes (i .from) ++ (two-bytes (i .to) ++ eight-bytes (i .amount))

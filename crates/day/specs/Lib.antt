@@ -3,3 +3,4 @@ pub mod File
 pub mod Rules
 pub mod Reading
 pub mod Promise
+pub mod Text

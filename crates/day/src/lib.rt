@@ -4,6 +4,7 @@ mod layout;
 mod reader;
 mod refusals;
 mod sizes;
+mod writer;
 
 pub use invoices::Invoice;
 pub use invoices::MOST_CENTS;
@@ -16,3 +17,4 @@ pub use sizes::MOST_FIRMS;
 pub use sizes::MOST_INVOICES;
 pub use sizes::Room;
 pub use sizes::Size;
+pub use writer::write;

@@ -1,6 +1,9 @@
 // Why a day is turned away, with the number and the place that members are told.
 ghost use mathlib.Core.Path.{_≡_};
+ghost use Rattle.std.specs.declared.option.Option.the-variants.{Some};
 ghost use Rattle.day.specs.Rules.{number-of, place-of};
+ghost use Rattle.day.specs.Text.{refusal-text};
+use std::fmt;
 
 // The kinds of lent memory, in the order in which their room is looked at.
 #[derive(Clone, Copy, PartialEq, Eq, Debug)]
@@ -53,5 +56,15 @@ impl Refusal {
             Refusal::Memory(Kind::Numbers) => 1,
             Refusal::Memory(Kind::Rings) => 2,
         }
+    }
+}
+
+pub impl fmt::Display for Refusal as RefusalDisplay {
+    ghost shown = { λ r. Some (refusal-text r) };
+
+    fn fmt<W: fmt::Write>(&self, f: &mut fmt::Formatter<W>) -> fmt::Result {
+        let number = self.number();
+        let place = self.place();
+        write!(f, "refused {number} at {place}")
     }
 }

@@ -1,4 +1,7 @@
 // How large a day is, and how much memory is lent for it.
+ghost use Rattle.std.specs.declared.option.Option.the-variants.{Some};
+ghost use Rattle.day.specs.Text.{size-text};
+use std::fmt;
 
 // The most firms and invoices of a day.
 pub const MOST_FIRMS: u16 = 512;
@@ -18,4 +21,14 @@ pub struct Room {
     pub invoices: usize,
     pub numbers: usize,
     pub rings: usize,
+}
+
+pub impl fmt::Display for Size as SizeDisplay {
+    ghost shown = { λ s. Some (size-text s) };
+
+    fn fmt<W: fmt::Write>(&self, f: &mut fmt::Formatter<W>) -> fmt::Result {
+        let firms = self.firms;
+        let invoices = self.invoices;
+        write!(f, "{firms} firms, {invoices} invoices")
+    }
 }
