@@ -99,12 +99,13 @@ module _ (n : ℕ) (is : List Invoice) where
       getD-invoices-in (written n is) e blank (omega (arith, whole-written)) ∙ invoice-back e blank there (fits e there))
 
 -- one invoice more
-pub written-more : (n : ℕ) (is : List Invoice) (k : ℕ) → k < length is →
-    written n (take (k + 1) is) ≡ written n (take k is) ++ invoice-bytes (getD is k blank)
+pub written-more : (n : ℕ) (is : List Invoice) (k : ℕ) (was now : List ℕ) → k < length is →
+    was ≡ written n (take k is) → now ≡ was ++ invoice-bytes (getD is k blank) → now ≡ written n (take (k + 1) is)
 unfolding written
-written-more n is k h =
-    ap (λ (js : List Invoice). two-bytes n ++ joined invoice-bytes js) (take-more is k blank h)
-    ∙ sym (joined-more invoice-bytes (two-bytes n) (take k is) (getD is k blank))
+written-more n is k was now h before more =
+    more ∙ ap (λ (b : List ℕ). b ++ invoice-bytes (getD is k blank)) before
+    ∙ joined-more invoice-bytes (two-bytes n) (take k is) (getD is k blank)
+    ∙ ap (λ (js : List Invoice). two-bytes n ++ joined invoice-bytes js) (sym (take-more is k blank h))
 
 -- no invoice yet
 pub written-none : (n : ℕ) → written n [] ≡ two-bytes n

@@ -18,7 +18,7 @@ pub const MOST_CENTS: u64 = 1_000_000_000_000;
 
 // What every invoice keeps, in the order in which the rules are looked at.
 #[derive(Clone, Copy, PartialEq, Eq, Debug)]
-pub enum Rule {
+pub(crate) enum Rule {
     FirmsThere,
     TwoFirms,
     AmountInRange,
@@ -26,7 +26,7 @@ pub enum Rule {
 
 impl Rule {
     // Hands the invoice on if it keeps the rule on a day of so many firms.
-    pub fn kept(self, firms: u16, invoice: Invoice) -> Option<Invoice>
+    pub(crate) fn kept(self, firms: u16, invoice: Invoice) -> Option<Invoice>
         ensures { λ r. ⌜ r ≡ cond (breaks self firms invoice) None (Some invoice) ⌝ }
     {
         let broken = match self {
@@ -38,7 +38,7 @@ impl Rule {
     }
 
     // The refusal of a day whose invoice at this place breaks the rule.
-    pub fn refusal(self, place: usize) -> Refusal
+    pub(crate) fn refusal(self, place: usize) -> Refusal
         ensures { λ r. ⌜ r ≡ refusal-by self place ⌝ }
     {
         match self {

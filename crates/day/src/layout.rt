@@ -6,18 +6,18 @@ ghost use Rattle.day.specs.File.{two, eight, invoice-at, whole};
 use crate::invoices::Invoice;
 
 // The bytes of the number of firms, and of an invoice.
-pub const HEAD: usize = 2;
+pub(crate) const HEAD: usize = 2;
 
-pub const STRIDE: usize = 12;
+pub(crate) const STRIDE: usize = 12;
 
-pub fn u16_at(file: &[u8], at: usize) -> u16
+pub(crate) fn u16_at(file: &[u8], at: usize) -> u16
     requires { ⌜ at + 2 ≤ length (now file) ⌝ }
     ensures { λ r. ⌜ r ≡ two (now (file .entry)) at ⌝ }
 {
     u16::from_le_bytes([file[at], file[at + 1]])
 }
 
-pub fn u64_at(file: &[u8], at: usize) -> u64
+pub(crate) fn u64_at(file: &[u8], at: usize) -> u64
     requires { ⌜ at + 8 ≤ length (now file) ⌝ }
     ensures { λ r. ⌜ r ≡ eight (now (file .entry)) at ⌝ }
 {
@@ -33,7 +33,7 @@ pub fn u64_at(file: &[u8], at: usize) -> u64
     ])
 }
 
-pub fn invoice_at(file: &[u8], e: usize) -> Invoice
+pub(crate) fn invoice_at(file: &[u8], e: usize) -> Invoice
     requires { ⌜ 2 + 12 * (e + 1) ≤ length (now file) ⌝ }
     ensures { λ r. ⌜ r ≡ invoice-at (now (file .entry)) e ⌝ }
 {

@@ -1,4 +1,5 @@
 // A clearing day: its invoices, how they are read from a file, and what turns a day away.
+mod checks;
 mod invoices;
 mod layout;
 mod reader;
@@ -7,14 +8,30 @@ mod sizes;
 mod writer;
 
 pub use invoices::Invoice;
+pub use invoices::InvoiceDebug;
+pub use invoices::InvoiceEq;
+pub use invoices::InvoicePartialEq;
 pub use invoices::MOST_CENTS;
-pub use invoices::Rule;
 pub use layout::whole_invoices;
 pub use reader::read;
 pub use refusals::Kind;
+pub use refusals::KindDebug;
+pub use refusals::KindEq;
+pub use refusals::KindPartialEq;
 pub use refusals::Refusal;
+pub use refusals::RefusalDebug;
+pub use refusals::RefusalDisplay;
+pub use refusals::RefusalEq;
+pub use refusals::RefusalPartialEq;
 pub use sizes::MOST_FIRMS;
 pub use sizes::MOST_INVOICES;
 pub use sizes::Room;
+pub use sizes::RoomDebug;
+pub use sizes::RoomEq;
+pub use sizes::RoomPartialEq;
 pub use sizes::Size;
+pub use sizes::SizeDebug;
+pub use sizes::SizeDisplay;
+pub use sizes::SizeEq;
+pub use sizes::SizePartialEq;
 pub use writer::write;

@@ -1,7 +1,7 @@
 -- At each exit the checks before it gave no refusal.
 use borrow.Author.Needs.{needs}
 use Rattle.day.specs.Reading.{refusal-in}
-use Rattle.day.proofs.reader.check.Needs as need
+use Rattle.day.proofs.checks.check.Needs as need
 
 pub returns-in-rest : need.returns-in-rest
 unfolding refusal-in

@@ -7,7 +7,7 @@ use Rattle.day.specs.File.{whole, invoice-at}
 use Rattle.day.specs.Rules.{breaks}
 use Rattle.day.specs.Reading.{answered}
 use Rattle.day.proofs.Firsts.{by-rule-some, by-rule-none, true-from-none}
-use Rattle.day.proofs.reader.each_keeps.Needs as need
+use Rattle.day.proofs.checks.each_keeps.Needs as need
 
 pub returns-in-rest : need.returns-in-rest
 returns-in-rest c =
