@@ -10,6 +10,8 @@ use day::SizePartialEq;
 use std::alloc::Global;
 use std::test::*;
 
+pub(crate) type Answer = Result<Size, Refusal>;
+
 pub(crate) const AMPLE: Room = Room {
     invoices: 10_000,
     numbers: 512,
@@ -20,24 +22,29 @@ pub(crate) fn invoice(from: u16, to: u16, amount: u64) -> Invoice {
     Invoice { from, to, amount }
 }
 
-// What the reader answers to a file, lent a place for each invoice.
-pub(crate) fn answer(heap: Global, file: &[u8]) -> Result<Result<Size, Refusal>, Fail> {
+pub(crate) fn taken(firms: u16, invoices: usize) -> Answer {
+    Ok(Size { firms, invoices })
+}
+
+// The reader's answer to a file, lent a place for each invoice, is the one that is expected.
+pub(crate) fn expect(heap: Global, file: &[u8], answer: Answer) -> Result<(), Fail> {
     let invoices = day::whole_invoices(file);
     let mut from = vec![in heap; 0u16; invoices]?;
     let mut to = vec![in heap; 0u16; invoices]?;
     let mut amount = vec![in heap; 0u64; invoices]?;
-    Ok(day::read(file, &mut from, &mut to, &mut amount, AMPLE))
+    check_eq(
+        day::read(file, &mut from, &mut to, &mut amount, AMPLE),
+        answer,
+    )
 }
 
-pub(crate) fn expect_taken(
+// The same of a day, given by its firms and invoices.
+pub(crate) fn expect_day(
     heap: Global,
-    file: &[u8],
     firms: u16,
-    invoices: usize,
+    invoices: &[Invoice],
+    answer: Answer,
 ) -> Result<(), Fail> {
-    check_eq(answer(heap, file)?, Ok(Size { firms, invoices }))
-}
-
-pub(crate) fn expect_refused(heap: Global, file: &[u8], refusal: Refusal) -> Result<(), Fail> {
-    check_eq(answer(heap, file)?, Err(refusal))
+    let file = day::write(heap, firms, invoices)?;
+    expect(heap, &file, answer)
 }

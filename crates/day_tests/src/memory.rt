@@ -1,12 +1,12 @@
 // Lent memory: one place too few of each kind, more than is needed, and what stands in it after.
 use crate::helpers::AMPLE;
 use crate::helpers::invoice;
+use crate::helpers::taken;
 use day::Kind;
 use day::Refusal;
 use day::RefusalDebug;
 use day::RefusalPartialEq;
 use day::Room;
-use day::Size;
 use day::SizeDebug;
 use day::SizePartialEq;
 use std::alloc::Global;
@@ -17,92 +17,36 @@ fn small(heap: Global) -> Result<Vec<u8>, Fail> {
     Ok(day::write(heap, 3, &[invoice(0, 1, 500), invoice(2, 0, 70000)])?)
 }
 
-const JUST_ENOUGH: Room = Room {
-    invoices: 2,
-    numbers: 3,
-    rings: 5,
-};
-
-// What is answered with so many places in the three rows, and this room.
-fn expect(
-    heap: Global,
-    from: usize,
-    to: usize,
-    amount: usize,
-    room: Room,
-    answer: Result<Size, Refusal>,
-) -> Result<(), Fail> {
-    let mut from = vec![in heap; 7u16; from]?;
-    let mut to = vec![in heap; 7u16; to]?;
-    let mut amount = vec![in heap; 7u64; amount]?;
-    check_eq(
-        day::read(&small(heap)?, &mut from, &mut to, &mut amount, room),
-        answer,
-    )
-}
-
+// Places in the three rows that are written, in the invoices' other rows, in the firms' rows, and for rings.
 #[test]
 fn one_too_short(rt: LibcRuntime) -> Result<(), Fail> {
     let heap = rt.alloc();
-    let taken = Ok(Size {
-        firms: 3,
-        invoices: 2,
-    });
-    expect(heap, 2, 2, 2, JUST_ENOUGH, taken)?;
-    expect(
-        heap,
-        1,
-        2,
-        2,
-        JUST_ENOUGH,
-        Err(Refusal::Memory(Kind::Invoices)),
-    )?;
-    expect(
-        heap,
-        2,
-        1,
-        2,
-        JUST_ENOUGH,
-        Err(Refusal::Memory(Kind::Invoices)),
-    )?;
-    expect(
-        heap,
-        2,
-        2,
-        1,
-        JUST_ENOUGH,
-        Err(Refusal::Memory(Kind::Invoices)),
-    )?;
-    let struck = Room {
-        invoices: 1,
-        numbers: 3,
-        rings: 5,
-    };
-    expect(heap, 2, 2, 2, struck, Err(Refusal::Memory(Kind::Invoices)))?;
-    let numbers = Room {
-        invoices: 2,
-        numbers: 2,
-        rings: 5,
-    };
-    expect(heap, 2, 2, 2, numbers, Err(Refusal::Memory(Kind::Numbers)))?;
-    let rings = Room {
-        invoices: 2,
-        numbers: 3,
-        rings: 4,
-    };
-    expect(heap, 2, 2, 2, rings, Err(Refusal::Memory(Kind::Rings)))?;
-    let none = Room {
-        invoices: 0,
-        numbers: 0,
-        rings: 0,
-    };
-    expect(heap, 2, 2, 2, none, Err(Refusal::Memory(Kind::Invoices)))?;
-    let firms = Room {
-        invoices: 2,
-        numbers: 0,
-        rings: 0,
-    };
-    expect(heap, 2, 2, 2, firms, Err(Refusal::Memory(Kind::Numbers)))
+    let cases = [
+        (2, 2, 2, 2, 3, 5, taken(3, 2)),
+        (1, 2, 2, 2, 3, 5, Err(Refusal::Memory(Kind::Invoices))),
+        (2, 1, 2, 2, 3, 5, Err(Refusal::Memory(Kind::Invoices))),
+        (2, 2, 1, 2, 3, 5, Err(Refusal::Memory(Kind::Invoices))),
+        (2, 2, 2, 1, 3, 5, Err(Refusal::Memory(Kind::Invoices))),
+        (2, 2, 2, 2, 2, 5, Err(Refusal::Memory(Kind::Numbers))),
+        (2, 2, 2, 2, 3, 4, Err(Refusal::Memory(Kind::Rings))),
+        (2, 2, 2, 1, 0, 0, Err(Refusal::Memory(Kind::Invoices))),
+        (2, 2, 2, 2, 0, 0, Err(Refusal::Memory(Kind::Numbers))),
+    ];
+    for (from, to, amount, invoices, numbers, rings, answer) in cases {
+        let mut from = vec![in heap; 7u16; from]?;
+        let mut to = vec![in heap; 7u16; to]?;
+        let mut amount = vec![in heap; 7u64; amount]?;
+        let room = Room {
+            invoices,
+            numbers,
+            rings,
+        };
+        check_eq(
+            day::read(&small(heap)?, &mut from, &mut to, &mut amount, room),
+            answer,
+        )?;
+    }
+    Ok(())
 }
 
 #[test]
@@ -114,10 +58,7 @@ fn longer_than_needed(rt: LibcRuntime) -> Result<(), Fail> {
     let file = small(heap)?;
     check_eq(
         day::read(&file, &mut from, &mut to, &mut amount, AMPLE),
-        Ok(Size {
-            firms: 3,
-            invoices: 2,
-        }),
+        taken(3, 2),
     )?;
     check_eq(from, [0, 2, 7, 7])?;
     check_eq(to, [1, 0, 8])?;
@@ -150,9 +91,6 @@ fn no_invoices_need_no_rows(rt: LibcRuntime) -> Result<(), Fail> {
     };
     check_eq(
         day::read(&file, &mut [], &mut [], &mut [], room),
-        Ok(Size {
-            firms: 512,
-            invoices: 0,
-        }),
+        taken(512, 0),
     )
 }
