@@ -9,6 +9,7 @@ use lib.ListN.{length, getD, take}
 use Rattle.std.specs.Joined.{joined}
 use Rattle.std.specs.shelf.Lists.{All}
 use Rattle.std.proofs.shelf.Lists.{append-assoc, length-append, getD-append-left, getD-append-right, ext-getD, take-more, joined-more}
+use Rattle.std.proofs.shelf.Elements.{all-getD}
 use Rattle.day.specs.declared.invoices.Invoice.{Invoice}
 use Rattle.day.specs.File.{two, eight, firms-in, whole, invoice-at, invoices-in, two-bytes, eight-bytes, invoice-bytes, written, Fits}
 use Rattle.day.proofs.Rows.{blank, length-invoices-in, getD-invoices-in}
@@ -91,12 +92,12 @@ module _ (n : ℕ) (is : List Invoice) where
       ) in
       λ i. record { from = from i; to = to i; amount = amount i }
 
-  pub invoices-back : ((e : ℕ) → e < length is → Fits (getD is e blank)) → invoices-in (written n is) ≡ is
+  pub invoices-back : All Fits is → invoices-in (written n is) ≡ is
   invoices-back fits =
       ext-getD blank (invoices-in (written n is)) is (length-invoices-in (written n is) ∙ whole-written)
       (λ e h.
       let there : e < length is = omega (arith, length-invoices-in (written n is), whole-written) in
-      getD-invoices-in (written n is) e blank (omega (arith, whole-written)) ∙ invoice-back e blank there (fits e there))
+      getD-invoices-in (written n is) e blank (omega (arith, whole-written)) ∙ invoice-back e blank there (all-getD Fits is e blank there fits))
 
 -- one invoice more
 pub written-more : (n : ℕ) (is : List Invoice) (k : ℕ) (was now : List ℕ) → k < length is →
@@ -106,8 +107,3 @@ written-more n is k was now h before more =
     more ∙ ap (λ (b : List ℕ). b ++ invoice-bytes (getD is k blank)) before
     ∙ joined-more invoice-bytes (two-bytes n) (take k is) (getD is k blank)
     ∙ ap (λ (js : List Invoice). two-bytes n ++ joined invoice-bytes js) (sym (take-more is k blank h))
-
--- no invoice yet
-pub written-none : (n : ℕ) → written n [] ≡ two-bytes n
-unfolding written
-written-none n = refl

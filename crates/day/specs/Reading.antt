@@ -1,7 +1,8 @@
 -- Which refusal applies first to a file, and what is answered and written. Assumes nothing.
+use mathlib.Core.Path.{_≡_}
 use mathlib.Core.Bool.{Bool, true, false, cond, not, _||_}
 use mathlib.Core.List.{List, [], _∷_, _++_}
-use Prim.Native.Nat.{ℕ, suc, _+_, _*_, min}
+use Prim.Native.Nat.{ℕ, suc, _+_, _*_, _≤_, min}
 use lib.Dec.{eqb, ltb}
 use lib.ListN.{length, drop}
 use Rattle.std.specs.Options.{mapped}
@@ -17,7 +18,8 @@ use Rattle.day.specs.declared.refusals.Refusal.{Refusal}
 use Rattle.day.specs.declared.refusals.Refusal.the-variants.{Firms, Length, Memory}
 use Rattle.day.specs.declared.sizes.Room.{Room}
 use Rattle.day.specs.declared.sizes.Size.{Size}
-use Rattle.day.specs.File.{firms-in, whole, invoices-in}
+use Rattle.day.specs.Bills.{Sound}
+use Rattle.day.specs.File.{firms-in, whole, invoice-at, invoices-in}
 use Rattle.day.specs.Rules.{breaks, refusal-by}
 
 -- one check: its refusal where the test holds
@@ -84,3 +86,12 @@ row-after (Err r) new old = old
 abbrev pub room-with : Room → List ℕ → List ℕ → List ℕ → Room
 room-with room from to amount =
     record { invoices = min (min (min (room .invoices) (length from)) (length to)) (length amount); numbers = room .numbers; rings = room .rings }
+
+-- a file of this size that is sound, and rows with a place for each of its invoices
+pub record Writable (s : Size) (b from to amount : List ℕ) : Type 0 where
+  pub firms : s .firms ≡ firms-in b
+  pub invoices : s .invoices ≡ whole b
+  pub sound : Sound (firms-in b) (whole b) (λ e. invoice-at b e .from) (λ e. invoice-at b e .to) (λ e. invoice-at b e .amount)
+  pub from-room : whole b ≤ length from
+  pub to-room : whole b ≤ length to
+  pub amount-room : whole b ≤ length amount

@@ -25,11 +25,10 @@ fn firms_of(file: &[u8]) -> Option<u16>
         return None;
     };
     let firms = u16::from_le_bytes([*low, *high]);
-    if firms == 0 || firms > MOST_FIRMS {
-        None
-    } else {
-        Some(firms)
-    }
+    let 1..=MOST_FIRMS = firms else {
+        return None;
+    };
+    Some(firms)
 }
 
 // The number of invoices, if the file has twelve bytes for each and they are not too many.

@@ -1,6 +1,6 @@
 // The writer: a day's file from its number of firms and its invoices. What it writes is read back as it was.
 ghost use mathlib.Core.Path.{_≡_};
-ghost use mathlib.Core.List.{_++_};
+ghost use mathlib.Core.List.{[], _++_};
 ghost use Rattle.std.specs.Of.Vec.{vec-items};
 ghost use Rattle.std.specs.Vec.{made};
 ghost use Rattle.day.specs.File.{firms-in, invoices-in, invoice-bytes, written, Fits};
@@ -8,6 +8,16 @@ use crate::invoices::Invoice;
 use std::alloc::AllocError;
 use std::alloc::Global;
 
+// A file with so many firms and no invoices yet.
+fn begin(heap: Global, firms: u16) -> Result<Vec<u8>, AllocError>
+    ensures { λ r. ⌜ made r (λ v. vec-items v ≡ written firms []) ⌝ }
+{
+    let mut file = Vec::new(heap);
+    file.extend_from_slice(&firms.to_le_bytes())?;
+    Ok(file)
+}
+
+// One invoice more, whose numbers fit the bytes that they are given.
 fn push_invoice(file: &mut Vec<u8>, invoice: Invoice) -> Result<(), AllocError>
     ensures bytes { λ r. ⌜ made r (λ _. vec-items (now (file .exit)) ≡ vec-items (now (file .entry)) ++ invoice-bytes invoice) ⌝ }
     ensures fits { λ _. ⌜ Fits invoice ⌝ }
@@ -23,8 +33,7 @@ pub fn write(heap: Global, firms: u16, invoices: &[Invoice]) -> Result<Vec<u8>, 
     ensures bytes { λ r. ⌜ made r (λ v. vec-items v ≡ written firms (now (invoices .entry))) ⌝ }
     ensures back { λ r. ⌜ made r (λ v. (firms-in (vec-items v) ≡ firms) × (invoices-in (vec-items v) ≡ now (invoices .entry))) ⌝ }
 {
-    let mut file = Vec::new(heap);
-    file.extend_from_slice(&firms.to_le_bytes())?;
+    let mut file = begin(heap, firms)?;
     for invoice in invoices {
         push_invoice(&mut file, *invoice)?;
     }

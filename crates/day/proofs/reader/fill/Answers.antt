@@ -3,7 +3,8 @@ use mathlib.Core.Path.{_≡_, _∙_, ap}
 use native.Mathlib.Omega.{arith}
 use lib.ListN.{set}
 use Rattle.day.specs.File.{invoice-at}
-use Rattle.day.proofs.Rows.{partly, wrote, filled}
+use Rattle.day.proofs.Rows.{wrote, filled}
+use Rattle.day.proofs.Taken.{rows-sound}
 use Rattle.day.proofs.reader.fill.Needs as need
 
 pub loop-e-again : need.loop-e-again
@@ -17,8 +18,7 @@ loop-e-again c =
 pub returns : need.returns
 returns c =
     let file = c .args .file .now in
-    record {
-      from = filled (λ i. i .from) file (c .args .from .now) _ (c .loop-e .e) (omega arith) (c .loop-e .inv .0);
-      to = filled (λ i. i .to) file (c .args .to .now) _ (c .loop-e .e) (omega arith) (c .loop-e .inv .1);
-      amount = filled (λ i. i .amount) file (c .args .amount .now) _ (c .loop-e .e) (omega arith) (c .loop-e .inv .2);
-    }
+    let from = filled (λ i. i .from) file (c .args .from .now) _ (c .loop-e .e) (omega arith) (c .loop-e .inv .0) in
+    let to = filled (λ i. i .to) file (c .args .to .now) _ (c .loop-e .e) (omega arith) (c .loop-e .inv .1) in
+    let amount = filled (λ i. i .amount) file (c .args .amount .now) _ (c .loop-e .e) (omega arith) (c .loop-e .inv .2) in
+    record { from = from; to = to; amount = amount; sound = rows-sound (c .args .size) file _ _ _ _ _ _ (c .pre) from to amount }
