@@ -1,15 +1,13 @@
 -- With ample memory no day is refused for want of it. Assumes nothing.
-use mathlib.Core.Path.{_≡_, refl}
+use mathlib.Core.Path.{_≡_}
 use mathlib.Core.List.{List}
 use mathlib.Core.Logic.{inl, inr}
 use Prim.Native.Nat.{ℕ, _<_}
 use native.Mathlib.Omega.{arith}
-use lib.Dec.{lit<}
 use lib.ListN.{length}
 use Rattle.day.specs.declared.refusals.Kind.{Kind}
 use Rattle.day.specs.declared.refusals.Kind.the-variants.{Invoices, Numbers, Rings}
 use Rattle.day.specs.declared.refusals.Refusal.the-variants.{Firms, Memory}
-use Rattle.day.specs.declared.sizes.Room.{Room}
 use Rattle.day.specs.File.{firms-in, whole}
 use Rattle.day.specs.Reading.{room-with}
 use Rattle.day.specs.Promise.{First}

@@ -1,9 +1,9 @@
 -- The checks of a file find the first refusal in the order of the rules. Assumes nothing.
-use mathlib.Core.Path.{_≡_, _∙_, refl, sym, ap, subst}
-use mathlib.Core.Bool.{Bool, true, false}
+use mathlib.Core.Path.{_≡_, _∙_, refl, ap, subst}
+use mathlib.Core.Bool.{true}
 use mathlib.Core.List.{List}
-use mathlib.Core.Logic.{_⊎_, inl, inr}
-use Prim.Native.Nat.{ℕ, zero, suc, _+_, _*_, _≤_, _<_}
+use mathlib.Core.Logic.{inl, inr}
+use Prim.Native.Nat.{ℕ, _+_, _*_, _≤_, _<_}
 use native.Mathlib.Omega.{arith}
 use lib.Dec.{leb}
 use lib.ListN.{length, getD}
@@ -14,18 +14,17 @@ use Rattle.std.specs.Orderings.{Decides}
 use Rattle.std.specs.declared.option.Option.{Option}
 use Rattle.std.specs.declared.option.Option.the-variants.{Some, None}
 use Rattle.std.specs.declared.result.Result.{Result}
-use Rattle.std.specs.declared.result.Result.the-variants.{Ok, Err}
 use Rattle.day.specs.declared.invoices.Invoice.{Invoice}
 use Rattle.day.specs.declared.invoices.Rule.{Rule}
 use Rattle.day.specs.declared.invoices.Rule.the-variants.{FirmsThere, TwoFirms, AmountInRange}
 use Rattle.day.specs.declared.refusals.Kind.the-variants.{Invoices, Numbers, Rings}
 use Rattle.day.specs.declared.refusals.Refusal.{Refusal}
-use Rattle.day.specs.declared.refusals.Refusal.the-variants.{Firms, Length, NoFirm, ToItself, Amount, Memory}
+use Rattle.day.specs.declared.refusals.Refusal.the-variants.{Firms, Length, Memory}
 use Rattle.day.specs.declared.sizes.Room.{Room}
 use Rattle.day.specs.File.{firms-in, whole, invoices-in}
 use Rattle.day.specs.Rules.{breaks, refusal-by, place-of}
 use Rattle.day.specs.Reading.{if-so, first, by-rule, by-rules, by-room, no-firms, no-rows, refusal-in, answered}
-use Rattle.day.specs.Promise.{Fault, Faulty, Broken, First, Refuses, turn, Before}
+use Rattle.day.specs.Promise.{Fault, Faulty, Broken, First, Refuses, turn}
 use Rattle.day.proofs.Firsts.{Found, found}
 use Rattle.day.proofs.Rows.{blank}
 use Rattle.day.proofs.Turns.{Finds, finds-if, finds-next, finds-first, told-at, turn-below}

@@ -1,11 +1,11 @@
 -- The rows of a file's invoices, place by place, and how a loop writes one. Assumes nothing.
 use mathlib.Core.Path.{_≡_, _∙_, refl, sym, ap}
 use mathlib.Core.List.{List, [], _∷_, _++_, map}
-use Prim.Native.Nat.{ℕ, zero, suc, _+_, _<_, _≤_}
+use Prim.Native.Nat.{ℕ, _+_, _<_}
 use native.Mathlib.Omega.{arith}
 use lib.ListN.{length, getD, set, drop}
 use Rattle.std.specs.Iters.{counting}
-use Rattle.std.proofs.shelf.Lists.{length-map, set-at, drop-more, append-assoc}
+use Rattle.std.proofs.shelf.Lists.{set-at, drop-more, append-assoc}
 use Rattle.std.proofs.shelf.Counted.{length-map-counting, getD-map-counting, map-counting-more}
 use Rattle.day.specs.declared.invoices.Invoice.{Invoice}
 use Rattle.day.specs.File.{invoice-at, invoices-in, whole}

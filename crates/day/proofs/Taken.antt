@@ -1,10 +1,10 @@
 -- A file that is taken is a sound day, and so are the rows that hold it. Assumes nothing.
-use mathlib.Core.Path.{_≡_, _∙_, refl, sym, ap, subst}
+use mathlib.Core.Path.{_≡_, _∙_, refl, sym, ap}
 use mathlib.Core.List.{List, map}
-use mathlib.Core.Logic.{inl, inr, _≢_}
-use Prim.Native.Nat.{ℕ, _+_, _*_, _^_, _≤_, _<_}
+use mathlib.Core.Logic.{inl, inr}
+use Prim.Native.Nat.{ℕ, _^_, _≤_, _<_}
 use native.Mathlib.Omega.{arith}
-use lib.ListN.{length, getD}
+use lib.ListN.{length}
 use Rattle.std.proofs.shelf.Lists.{getD-append-left, getD-map, length-map}
 use Rattle.std.proofs.shelf.Tests.{cases-lt}
 use Rattle.std.specs.Vec.{made}
@@ -15,7 +15,7 @@ use Rattle.std.specs.declared.result.Result.the-variants.{Ok, Err}
 use Rattle.day.specs.declared.invoices.Invoice.{Invoice}
 use Rattle.day.specs.declared.invoices.Rule.{Rule}
 use Rattle.day.specs.declared.invoices.Rule.the-variants.{FirmsThere, TwoFirms, AmountInRange}
-use Rattle.day.specs.declared.refusals.Kind.the-variants.{Invoices, Numbers, Rings}
+use Rattle.day.specs.declared.refusals.Kind.the-variants.{Invoices}
 use Rattle.day.specs.declared.refusals.Refusal.{Refusal}
 use Rattle.day.specs.declared.refusals.Refusal.the-variants.{Firms, Length, NoFirm, ToItself, Amount, Memory}
 use Rattle.day.specs.declared.sizes.Room.{Room}
@@ -23,7 +23,7 @@ use Rattle.day.specs.declared.sizes.Size.{Size}
 use Rattle.day.specs.Bills.{Sound, reads}
 use Rattle.day.specs.File.{firms-in, whole, invoice-at, invoices-in, from-row, to-row, amount-row}
 use Rattle.day.specs.Reading.{refusal-in, answered, size-in, row-read, room-with, Writable}
-use Rattle.day.specs.Promise.{Fault, Faulty, Broken}
+use Rattle.day.specs.Promise.{Fault, Faulty}
 use Rattle.day.proofs.Refused.{none-broken}
 use Rattle.day.proofs.Rows.{length-invoices-in, getD-invoices-in}
 

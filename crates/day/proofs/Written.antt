@@ -1,8 +1,8 @@
 -- A day that is written is read back as it was. Assumes nothing.
 use mathlib.Core.Path.{_≡_, _∙_, refl, sym, ap}
-use mathlib.Core.List.{List, [], _∷_, _++_, map}
-use Prim.Native.Nat.{ℕ, zero, suc, _+_, _-_, _*_, _/_, _%_, _^_, _≤_, _<_}
-use native.Mathlib.Nat.{le-of-suc-le-suc, not-suc-le-zero, mod-eq-of-lt, mod-lt}
+use mathlib.Core.List.{List, [], _∷_, _++_}
+use Prim.Native.Nat.{ℕ, zero, suc, _+_, _-_, _*_, _/_, _%_, _^_, _<_}
+use native.Mathlib.Nat.{le-of-suc-le-suc, not-suc-le-zero, mod-eq-of-lt}
 use native.Mathlib.Omega.{arith}
 use lib.Arith.{mod-mul}
 use lib.ListN.{length, getD, take}
@@ -11,7 +11,7 @@ use Rattle.std.specs.shelf.Lists.{All}
 use Rattle.std.proofs.shelf.Lists.{append-assoc, length-append, getD-append-left, getD-append-right, ext-getD, take-more, joined-more}
 use Rattle.std.proofs.shelf.Elements.{all-getD}
 use Rattle.day.specs.declared.invoices.Invoice.{Invoice}
-use Rattle.day.specs.File.{two, eight, firms-in, whole, invoice-at, invoices-in, two-bytes, eight-bytes, invoice-bytes, written, Fits}
+use Rattle.day.specs.File.{two, eight, firms-in, whole, invoice-at, invoices-in, two-bytes, invoice-bytes, written, Fits}
 use Rattle.day.proofs.Rows.{blank, length-invoices-in, getD-invoices-in}
 
 -- three parts that are added one after the other

@@ -1,5 +1,4 @@
 -- The words of the clearing day: sums, firms, and the invoices between them. Assumes nothing: these are definitions.
-use mathlib.Core.Path.{_≡_}
 use mathlib.Core.Bool.{Bool, true, false}
 use mathlib.Core.List.{List}
 use mathlib.Core.Logic.{_≢_}

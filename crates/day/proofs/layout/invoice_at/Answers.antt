@@ -1,5 +1,4 @@
 -- The three numbers are read where the layout has them.
-use mathlib.Core.Path.{_≡_}
 use borrow.Author.Needs.{needs}
 use Rattle.day.specs.File.{invoice-at}
 use Rattle.day.proofs.layout.invoice_at.Needs as need

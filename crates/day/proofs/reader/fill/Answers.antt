@@ -1,7 +1,6 @@
 -- One more place is written in each row.
-use mathlib.Core.Path.{_≡_, _∙_, ap}
+use mathlib.Core.Path.{ap}
 use native.Mathlib.Omega.{arith}
-use lib.ListN.{set}
 use Rattle.day.specs.File.{invoice-at}
 use Rattle.day.proofs.Rows.{wrote, filled}
 use Rattle.day.proofs.Taken.{rows-sound}

@@ -1,7 +1,6 @@
 -- One more invoice is written at each turn, and all of them are read back.
 use mathlib.Core.Path.{_≡_, _∙_, ap, subst}
 use native.Mathlib.Omega.{arith}
-use lib.ListN.{take}
 use Rattle.std.specs.Of.Vec.{vec-items}
 use Rattle.std.specs.shelf.Lists.{All}
 use Rattle.std.proofs.shelf.Elements.{all-more}
@@ -15,7 +14,7 @@ pub loop-invoice-again : need.loop-invoice-again
 loop-invoice-again c =
     let is = c .args .invoices .now in
     let k = c .loop-invoice .invoice-index in (
-      written-more (c .args .firms) is k _ _ (omega arith) (c .loop-invoice .inv .0) (c .in-Continue-push-invoice .ensures tt .bytes),
+      written-more (c .args .firms) is k (vec-items (c .loop-invoice .file)) (vec-items (c .push-invoice .last .file)) (omega arith) (c .loop-invoice .inv .0) (c .in-Continue-push-invoice .ensures tt .bytes),
       all-more Fits is k blank (omega arith) (c .loop-invoice .inv .1) (c .in-Continue-push-invoice .ensures tt .fits),
     )
 
