@@ -23,7 +23,7 @@ use Rattle.day.specs.declared.refusals.Refusal.the-variants.{Firms, Length, Me
 use Rattle.day.specs.declared.sizes.Room.{Room}
 use Rattle.day.specs.File.{firms-in, whole, invoices-in}
 use Rattle.day.specs.Rules.{breaks, refusal-by, place-of}
-use Rattle.day.specs.Reading.{if-so, first, by-rule, by-rules, by-room, no-firms, no-rows, refusal-in, answered}
+use Rattle.day.specs.Reading.{if-so, first, by-rule, by-rules, by-room, bad-firms, bad-length, refusal-in, answered}
 use Rattle.day.specs.Promise.{Fault, Faulty, Broken, First, Refuses, turn}
 use Rattle.day.proofs.Firsts.{Found, found}
 use Rattle.day.proofs.Rows.{blank}
@@ -74,12 +74,12 @@ module _ (B : Refusal → Type 0) (r : Rule) (n t : ℕ) (is : List Invoice) (tu
   finds-rule = finds-by (first (breaks r n) is) (found (breaks r n) is)
 
 module _ (room : Room) (b : List ℕ) where
-  decides-no-firms : Decides (no-firms b) (Broken room b Firms)
-  decides-no-firms =
+  decides-bad-firms : Decides (bad-firms b) (Broken room b Firms)
+  decides-bad-firms =
       decides-or _ _ (decides-ltb (length b) 2) (decides-or _ _ (decides-eqb (firms-in b) 0) (decides-ltb 512 (firms-in b)))
 
-  decides-no-rows : Decides (no-rows b) (Broken room b (Length (length b)))
-  decides-no-rows = (
+  decides-bad-length : Decides (bad-length b) (Broken room b (Length (length b)))
+  decides-bad-length = (
     (λ e. (
       refl,
       λ k few is. elim (or-cases _ _ e) [
@@ -87,7 +87,7 @@ module _ (room : Room) (b : List ℕ) where
         | inr many ↦ let more = ltb-true _ _ many in omega arith
       ],
     )),
-    (λ f. elim (cases-bool (no-rows b)) [
+    (λ f. elim (cases-bool (bad-length b)) [
       | inl so ↦ so
       | inr not-so ↦
           let p = or-parts _ _ not-so in
@@ -103,8 +103,8 @@ module _ (room : Room) (b : List ℕ) where
       (finds-if _ _ (Memory Numbers) (decides-ltb (room .numbers) (firms-in b)) (λ q t _. told-at 2 q t))
       (finds-if _ _ (Memory Rings) (decides-ltb (room .rings) (firms-in b + 2)) (λ q t _. told-at 3 q t)))
 
-  finds-length : Finds (Broken room b) 4 5 (if-so (no-rows b) (Length (length b)))
-  finds-length = finds-if _ _ (Length (length b)) decides-no-rows (λ q t broken. let at = told-at 4 q t in at ∙ ap Length (subst (Broken room b) at broken .0))
+  finds-length : Finds (Broken room b) 4 5 (if-so (bad-length b) (Length (length b)))
+  finds-length = finds-if _ _ (Length (length b)) decides-bad-length (λ q t broken. let at = told-at 4 q t in at ∙ ap Length (subst (Broken room b) at broken .0))
 
   finds-rules : Finds (Broken room b) 5 8 (by-rules (firms-in b) (invoices-in b))
   finds-rules =
@@ -118,7 +118,7 @@ module _ (room : Room) (b : List ℕ) where
   unfolding refusal-in
   finds-refusal =
       finds-next _ 0 1 8 _ _ (omega arith) (omega arith)
-      (finds-if _ _ Firms decides-no-firms (λ q t _. told-at 0 q t))
+      (finds-if _ _ Firms decides-bad-firms (λ q t _. told-at 0 q t))
       (finds-next _ 1 4 8 _ _ (omega arith) (omega arith) finds-room
       (finds-next _ 4 5 8 _ _ (omega arith) (omega arith) finds-length finds-rules))
 
@@ -129,6 +129,14 @@ module _ (room : Room) (b : List ℕ) where
 
   pub none-broken : refusal-in room b ≡ None → (q : Refusal) → Broken room b q → ⊥
   none-broken e q = finds-refusal .none e q (omega arith) (turn-below q)
+
+none-if : (room : Room) (b : List ℕ) (o : Option Refusal) → refusal-in room b ≡ o → ((q : Refusal) → Broken room b q → ⊥) → o ≡ None
+none-if room b None e unbroken = refl
+none-if room b (Some r) e unbroken = absurd (unbroken r (refused-first room b r .0 e .broken))
+
+-- where no rule is broken there is no refusal
+pub none-from-unbroken : (room : Room) (b : List ℕ) → ((q : Refusal) → Broken room b q → ⊥) → refusal-in room b ≡ None
+none-from-unbroken room b unbroken = none-if room b (refusal-in room b) refl unbroken
 
 refuses-by : {A : Type 0} (room : Room) (b : List ℕ) (o : Option Refusal) (x : A) → refusal-in room b ≡ o → Refuses room b (answered o x)
 refuses-by room b None x e =

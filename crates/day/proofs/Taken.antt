@@ -1,11 +1,11 @@
--- A file that is taken is a sound day, and so are the rows that hold it. Assumes nothing.
+-- A file that is taken is a sound day, and so are the rows that hold it; and a sound day's file is taken. Assumes nothing.
 use mathlib.Core.Path.{_≡_, _∙_, refl, sym, ap}
 use mathlib.Core.List.{List, map}
 use mathlib.Core.Logic.{inl, inr}
-use Prim.Native.Nat.{ℕ, _^_, _≤_, _<_}
+use Prim.Native.Nat.{ℕ, _+_, _*_, _≤_, _<_}
 use native.Mathlib.Omega.{arith}
 use lib.ListN.{length}
-use Rattle.std.proofs.shelf.Lists.{getD-append-left, getD-map, length-map}
+use Rattle.std.proofs.shelf.Lists.{getD-append-left, length-map}
 use Rattle.std.proofs.shelf.Tests.{cases-lt}
 use Rattle.std.specs.Vec.{made}
 use Rattle.std.specs.declared.option.Option.{Option}
@@ -15,56 +15,59 @@ use Rattle.std.specs.declared.result.Result.the-variants.{Ok, Err}
 use Rattle.day.specs.declared.invoices.Invoice.{Invoice}
 use Rattle.day.specs.declared.invoices.Rule.{Rule}
 use Rattle.day.specs.declared.invoices.Rule.the-variants.{FirmsThere, TwoFirms, AmountInRange}
-use Rattle.day.specs.declared.refusals.Kind.the-variants.{Invoices}
+use Rattle.day.specs.declared.refusals.Kind.the-variants.{Invoices, Numbers, Rings}
 use Rattle.day.specs.declared.refusals.Refusal.{Refusal}
 use Rattle.day.specs.declared.refusals.Refusal.the-variants.{Firms, Length, NoFirm, ToItself, Amount, Memory}
 use Rattle.day.specs.declared.sizes.Room.{Room}
 use Rattle.day.specs.declared.sizes.Size.{Size}
 use Rattle.day.specs.Bills.{Sound, reads}
-use Rattle.day.specs.File.{firms-in, whole, invoice-at, invoices-in, from-row, to-row, amount-row}
+use Rattle.day.specs.File.{firms-in, whole, invoices-in, debtors, creditors, amounts, Sound-list}
 use Rattle.day.specs.Reading.{refusal-in, answered, size-in, row-read, room-with, Writable}
-use Rattle.day.specs.Promise.{Fault, Faulty}
-use Rattle.day.proofs.Refused.{none-broken}
-use Rattle.day.proofs.Rows.{length-invoices-in, getD-invoices-in}
-
--- what stands at a place of a row that was read
-reads-row : (get : Invoice → ℕ) (b old : List ℕ) (e : ℕ) → e < whole b → reads (row-read (map get (invoices-in b)) old) e ≡ get (invoice-at b e)
-reads-row get b old e h =
-    let i = invoice-at b e in
-    let h′ : e < length (invoices-in b) = omega (arith, length-invoices-in b) in
-    let h″ : e < length (map get (invoices-in b)) = omega (arith, length-map (invoices-in b) get) in
-    getD-append-left (map get (invoices-in b)) _ 0 e h″
-    ∙ getD-map get (invoices-in b) e i 0 h′
-    ∙ ap get (getD-invoices-in b e i h)
+use Rattle.day.specs.Promise.{Faulty, Broken, Enough}
+use Rattle.day.proofs.Refused.{none-broken, none-from-unbroken}
+use Rattle.day.proofs.Rows.{length-invoices-in}
+use Rattle.day.proofs.Sounds.{sound-list, faultless, sound-like}
 
 module _ (room : Room) (b : List ℕ) (none : refusal-in room b ≡ None) where
-  -- an invoice of the file has no fault
-  no-fault : (r : Rule) (e : ℕ) → (Faulty r (firms-in b) (invoices-in b) e → ⊥) → e < whole b → Fault r (firms-in b) (invoice-at b e) → ⊥
-  no-fault r e not-faulty h fault =
-      not-faulty (omega (arith, length-invoices-in b), λ d. rw (getD-invoices-in b e d h) fault)
+  unbroken : (q : Refusal) → Broken room b q → ⊥
+  unbroken = none-broken room b none
 
   taken-room : whole b ≤ room .invoices
-  taken-room = elim (cases-lt (room .invoices) (whole b)) [ inl short ↦ absurd (none-broken room b none (Memory Invoices) short) | inr enough ↦ enough ]
+  taken-room = elim (cases-lt (room .invoices) (whole b)) [ inl short ↦ absurd (unbroken (Memory Invoices) short) | inr enough ↦ enough ]
 
-  taken-sound : Sound (firms-in b) (whole b) (λ e. invoice-at b e .from) (λ e. invoice-at b e .to) (λ e. invoice-at b e .amount)
+  kept : (r : Rule) (e : ℕ) → Faulty r (firms-in b) (invoices-in b) e → ⊥
+  kept FirmsThere e = unbroken (NoFirm e)
+  kept TwoFirms e = unbroken (ToItself e)
+  kept AmountInRange e = unbroken (Amount e)
+
+  taken-sound : Sound-list (firms-in b) (invoices-in b)
   taken-sound =
-      let bad-firms = none-broken room b none Firms in
-      let missing = λ (e : ℕ). no-fault FirmsThere e (none-broken room b none (NoFirm e)) in
-      let own = λ (e : ℕ). no-fault TwoFirms e (none-broken room b none (ToItself e)) in
-      let outside = λ (e : ℕ). no-fault AmountInRange e (none-broken room b none (Amount e)) in
-      record {
-        some-firm = elim (cases-lt 0 (firms-in b)) [ inl some ↦ omega arith | inr no′ ↦ absurd (bad-firms (inr (inl (omega arith)))) ];
-        few-firms = elim (cases-lt 512 (firms-in b)) [ inl many ↦ absurd (bad-firms (inr (inr many))) | inr few ↦ few ];
-        few-invoices = elim (cases-lt 4096 (whole b)) [
-          | inl many ↦ absurd (none-broken room b none (Length (length b)) (refl, λ k few is. omega arith))
-          | inr few ↦ few
-        ];
-        from-there = λ e h. elim (cases-lt (invoice-at b e .from) (firms-in b)) [ inl there ↦ there | inr past ↦ absurd (missing e h (inl past)) ];
-        to-there = λ e h. elim (cases-lt (invoice-at b e .to) (firms-in b)) [ inl there ↦ there | inr past ↦ absurd (missing e h (inr past)) ];
-        two-firms = own;
-        some-cents = λ e h. elim (cases-lt 0 (invoice-at b e .amount)) [ inl some ↦ omega arith | inr no′ ↦ absurd (outside e h (inl (omega arith))) ];
-        few-cents = λ e h. elim (cases-lt (10 ^ 12) (invoice-at b e .amount)) [ inl many ↦ absurd (outside e h (inr many)) | inr few ↦ few ];
-      }
+      sound-list (firms-in b) (invoices-in b)
+      (elim (cases-lt 0 (firms-in b)) [ inl some ↦ omega arith | inr no′ ↦ absurd (unbroken Firms (inr (inl (omega arith)))) ])
+      (elim (cases-lt 512 (firms-in b)) [ inl many ↦ absurd (unbroken Firms (inr (inr many))) | inr few ↦ few ])
+      (elim (cases-lt 4096 (whole b)) [
+        | inl many ↦ absurd (unbroken (Length (length b)) (refl, λ k few is. omega arith))
+        | inr few ↦ omega (arith, length-invoices-in b)
+      ])
+      kept
+
+-- and where it is sound, as long as it should be, and memory is enough, no rule is broken
+module _ (room : Room) (b : List ℕ) (long : length b ≡ 2 + 12 * length (invoices-in b))
+    (sound : Sound-list (firms-in b) (invoices-in b)) (enough : Enough room (firms-in b) (length (invoices-in b))) where
+  unbroken-by-sound : (q : Refusal) → Broken room b q → ⊥
+  unbroken-by-sound Firms (inl short) = omega arith
+  unbroken-by-sound Firms (inr (inl none)) = let some = sound .some-firm in omega arith
+  unbroken-by-sound Firms (inr (inr many)) = let few = sound .few-firms in omega arith
+  unbroken-by-sound (Memory Invoices) short = let room-for = enough .invoices in omega (arith, length-invoices-in b)
+  unbroken-by-sound (Memory Numbers) short = let room-for = enough .numbers in omega arith
+  unbroken-by-sound (Memory Rings) short = let room-for = enough .rings in omega arith
+  unbroken-by-sound (Length p) (is-long, other) = other (length (invoices-in b)) (sound .few-invoices) long
+  unbroken-by-sound (NoFirm e) faulty = faultless (firms-in b) (invoices-in b) sound FirmsThere e faulty
+  unbroken-by-sound (ToItself e) faulty = faultless (firms-in b) (invoices-in b) sound TwoFirms e faulty
+  unbroken-by-sound (Amount e) faulty = faultless (firms-in b) (invoices-in b) sound AmountInRange e faulty
+
+  pub sound-taken : refusal-in room b ≡ None
+  sound-taken = none-from-unbroken room b unbroken-by-sound
 
 -- an answer that took the file
 none-from-ok : {A : Type 0} (o : Option Refusal) (x y : A) → Ok x ≡ answered o y → (o ≡ None) × (x ≡ y)
@@ -87,22 +90,15 @@ writable room b f t a (Ok s) e =
     }
 
 -- rows that hold the file's invoices are sound where it is
-pub rows-sound : (s : Size) (b f₀ t₀ a₀ f t a : List ℕ) → Writable s b f₀ t₀ a₀ →
-    f ≡ row-read (from-row b) f₀ → t ≡ row-read (to-row b) t₀ → a ≡ row-read (amount-row b) a₀ →
+pub rows-sound : (s : Size) (b f₀ t₀ a₀ f t a : List ℕ) → Writable s b f₀ t₀ a₀ → f ≡ row-read (debtors (invoices-in b)) f₀ →
+    t ≡ row-read (creditors (invoices-in b)) t₀ → a ≡ row-read (amounts (invoices-in b)) a₀ →
     Sound (s .firms) (s .invoices) (reads f) (reads t) (reads a)
 rows-sound s b f₀ t₀ a₀ f t a w fs ts cents =
-    let from : (e : ℕ) → e < whole b → reads f e ≡ invoice-at b e .from = λ e h. rw fs (reads-row (λ i. i .from) b f₀ e h) in
-    let to : (e : ℕ) → e < whole b → reads t e ≡ invoice-at b e .to = λ e h. rw ts (reads-row (λ i. i .to) b t₀ e h) in
-    let amount : (e : ℕ) → e < whole b → reads a e ≡ invoice-at b e .amount = λ e h. rw cents (reads-row (λ i. i .amount) b a₀ e h) in
-    let sound = w .sound in
-    rw (w .firms, w .invoices)
-    record {
-      some-firm = sound .some-firm;
-      few-firms = sound .few-firms;
-      few-invoices = sound .few-invoices;
-      from-there = λ e h. rw (from e h) (sound .from-there e h);
-      to-there = λ e h. rw (to e h) (sound .to-there e h);
-      two-firms = λ e h same. sound .two-firms e h (sym (from e h) ∙ same ∙ to e h);
-      some-cents = λ e h. rw (amount e h) (sound .some-cents e h);
-      few-cents = λ e h. rw (amount e h) (sound .few-cents e h);
-    }
+    let is = invoices-in b in
+    let first : (get : Invoice → ℕ) (old : List ℕ) (e : ℕ) → e < length is → reads (row-read (map get is) old) e ≡ reads (map get is) e =
+    λ get old e h. let h′ : e < length (map get is) = omega (arith, length-map is get) in getD-append-left (map get is) _ 0 e h′ in
+    let k : s .invoices ≡ length is = w .invoices ∙ sym (length-invoices-in b) in
+    rw (w .firms, k)
+    (sound-like (firms-in b) (length is) _ _ _ (reads f) (reads t) (reads a)
+    (λ e h. rw fs (first (λ i. i .from) f₀ e h)) (λ e h. rw ts (first (λ i. i .to) t₀ e h)) (λ e h. rw cents (first (λ i. i .amount) a₀ e h))
+    (w .sound))

@@ -12,7 +12,9 @@ use Rattle.std.proofs.shelf.Lists.{append-assoc, length-append, getD-append-lef
 use Rattle.std.proofs.shelf.Elements.{all-getD}
 use Rattle.day.specs.declared.invoices.Invoice.{Invoice}
 use Rattle.day.specs.File.{two, eight, firms-in, whole, invoice-at, invoices-in, two-bytes, invoice-bytes, written, Fits}
+use Rattle.day.specs.Promise.{Brings}
 use Rattle.day.proofs.Rows.{blank, length-invoices-in, getD-invoices-in}
+use Rattle.day.proofs.Taken.{sound-taken}
 
 -- three parts that are added one after the other
 pub three-parts : (w x y z a b c a′ b′ c′ : List ℕ) → x ≡ w ++ a → y ≡ x ++ b → z ≡ y ++ c → a ≡ a′ → b ≡ b′ → c ≡ c′ → z ≡ w ++ (a′ ++ (b′ ++ c′))
@@ -65,7 +67,7 @@ module _ (n : ℕ) (is : List Invoice) where
   getD-written e j k d h l at =
       getD-append-right (two-bytes n) (joined invoice-bytes is) 2 k 0 refl (omega arith) ∙ getD-joined is e j (k - 2) d h l (omega arith)
 
-  pub firms-back : n < 256 ^ 2 → firms-in (written n is) ≡ n
+  firms-back : n < 256 ^ 2 → firms-in (written n is) ≡ n
   unfolding written
   firms-back h = two-back n h
 
@@ -92,12 +94,24 @@ module _ (n : ℕ) (is : List Invoice) where
       ) in
       λ i. record { from = from i; to = to i; amount = amount i }
 
-  pub invoices-back : All Fits is → invoices-in (written n is) ≡ is
+  invoices-back : All Fits is → invoices-in (written n is) ≡ is
   invoices-back fits =
       ext-getD blank (invoices-in (written n is)) is (length-invoices-in (written n is) ∙ whole-written)
       (λ e h.
       let there : e < length is = omega (arith, length-invoices-in (written n is), whole-written) in
       getD-invoices-in (written n is) e blank (omega (arith, whole-written)) ∙ invoice-back e blank there (all-getD Fits is e blank there fits))
+
+  -- the day is brought by its file
+  pub written-brings : n < 256 ^ 2 → All Fits is → Brings n is (written n is)
+  written-brings small fits =
+      let firms = firms-back small in
+      let invoices = invoices-back fits in
+      record {
+        firms = firms;
+        invoices = invoices;
+        taken = λ room sound enough.
+            sound-taken room (written n is) (rw invoices length-written) (rw (firms, invoices) sound) (rw (firms, invoices) enough);
+      }
 
 -- one invoice more
 pub written-more : (n : ℕ) (is : List Invoice) (k : ℕ) (was now : List ℕ) → k < length is →

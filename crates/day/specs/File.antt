@@ -5,6 +5,7 @@ use lib.ListN.{length, getD}
 use Rattle.std.specs.Iters.{counting}
 use Rattle.std.specs.Joined.{joined}
 use Rattle.day.specs.declared.invoices.Invoice.{Invoice}
+use Rattle.day.specs.Bills.{Sound, reads}
 
 -- the number that two bytes write from place i on, and the one that eight bytes write
 abbrev pub two : List ℕ → ℕ → ℕ
@@ -32,15 +33,19 @@ whole b = (length b - 2) / 12
 unfoldable pub invoices-in : List ℕ → List Invoice
 invoices-in b = map (invoice-at b) (counting 0 (whole b))
 
--- the same as three rows of numbers: who owes, who is owed, the cents
-abbrev pub from-row : List ℕ → List ℕ
-from-row b = map (λ i. i .from) (invoices-in b)
+-- invoices as three rows of numbers: who owes, who is owed, the cents
+abbrev pub debtors : List Invoice → List ℕ
+debtors is = map (λ i. i .from) is
 
-abbrev pub to-row : List ℕ → List ℕ
-to-row b = map (λ i. i .to) (invoices-in b)
+abbrev pub creditors : List Invoice → List ℕ
+creditors is = map (λ i. i .to) is
 
-abbrev pub amount-row : List ℕ → List ℕ
-amount-row b = map (λ i. i .amount) (invoices-in b)
+abbrev pub amounts : List Invoice → List ℕ
+amounts is = map (λ i. i .amount) is
+
+-- n firms and these invoices are a day within the limits
+abbrev pub Sound-list : ℕ → List Invoice → Type 0
+Sound-list n is = Sound n (length is) (reads (debtors is)) (reads (creditors is)) (reads (amounts is))
 
 -- the bytes that write a number, and those of a day
 abbrev pub two-bytes : ℕ → List ℕ

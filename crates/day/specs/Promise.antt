@@ -5,6 +5,7 @@ use mathlib.Core.Logic.{_⊎_, _≢_}
 use Prim.Native.Nat.{ℕ, _+_, _*_, _^_, _≤_, _<_}
 use lib.ListN.{length}
 use Rattle.std.specs.Places.{At}
+use Rattle.std.specs.declared.option.Option.the-variants.{None}
 use Rattle.std.specs.declared.result.Result.{Result}
 use Rattle.std.specs.declared.result.Result.the-variants.{Ok, Err}
 use Rattle.day.specs.declared.invoices.Invoice.{Invoice}
@@ -16,8 +17,9 @@ use Rattle.day.specs.declared.refusals.Refusal.the-variants.{Firms, Length, No
 use Rattle.day.specs.declared.sizes.Room.{Room}
 use Rattle.day.specs.declared.sizes.Size.{Size}
 use Rattle.day.specs.Bills.{Sound, reads}
-use Rattle.day.specs.File.{firms-in, whole, invoices-in}
+use Rattle.day.specs.File.{firms-in, whole, invoices-in, Sound-list}
 use Rattle.day.specs.Rules.{place-of, kind-of}
+use Rattle.day.specs.Reading.{refusal-in}
 
 -- what breaks a rule for invoices, on a day of n firms
 abbrev pub Fault : Rule → ℕ → Invoice → Type 0
@@ -66,3 +68,15 @@ Refuses room b answer = (r : Refusal) → (answer ≡ Err r → First room b r) 
 abbrev pub Takes : Result Size Refusal → List ℕ → List ℕ → List ℕ → Type 0
 Takes (Ok s) from to amount = Sound (s .firms) (s .invoices) (reads from) (reads to) (reads amount)
 Takes (Err r) from to amount = Unit {0}
+
+-- memory for n firms and k invoices
+pub record Enough (room : Room) (n k : ℕ) : Type 0 where
+  pub invoices : k ≤ room .invoices
+  pub numbers : n ≤ room .numbers
+  pub rings : n + 2 ≤ room .rings
+
+-- a file has these firms and invoices, and where they are sound it is taken with every memory that is enough
+pub record Brings (n : ℕ) (is : List Invoice) (b : List ℕ) : Type 0 where
+  pub firms : firms-in b ≡ n
+  pub invoices : invoices-in b ≡ is
+  pub taken : (room : Room) → Sound-list n is → Enough room n (length is) → refusal-in room b ≡ None

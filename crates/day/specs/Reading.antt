@@ -18,8 +18,7 @@ use Rattle.day.specs.declared.refusals.Refusal.{Refusal}
 use Rattle.day.specs.declared.refusals.Refusal.the-variants.{Firms, Length, Memory}
 use Rattle.day.specs.declared.sizes.Room.{Room}
 use Rattle.day.specs.declared.sizes.Size.{Size}
-use Rattle.day.specs.Bills.{Sound}
-use Rattle.day.specs.File.{firms-in, whole, invoice-at, invoices-in}
+use Rattle.day.specs.File.{firms-in, whole, invoices-in, Sound-list}
 use Rattle.day.specs.Rules.{breaks, refusal-by}
 
 -- one check: its refusal where the test holds
@@ -51,19 +50,19 @@ by-room room n k =
     (or-next (if-so (ltb (room .numbers) n) (Memory Numbers)) (if-so (ltb (room .rings) (n + 2)) (Memory Rings)))
 
 -- the number of firms is missing, 0 or above 512
-abbrev pub no-firms : List ℕ → Bool
-no-firms b = ltb (length b) 2 || (eqb (firms-in b) 0 || ltb 512 (firms-in b))
+abbrev pub bad-firms : List ℕ → Bool
+bad-firms b = ltb (length b) 2 || (eqb (firms-in b) 0 || ltb 512 (firms-in b))
 
 -- not twelve bytes for each invoice, or more than 4,096 invoices
-abbrev pub no-rows : List ℕ → Bool
-no-rows b = not (eqb (length b) (2 + 12 * whole b)) || ltb 4096 (whole b)
+abbrev pub bad-length : List ℕ → Bool
+bad-length b = not (eqb (length b) (2 + 12 * whole b)) || ltb 4096 (whole b)
 
 -- the first refusal that applies to a file
 unfoldable pub refusal-in : Room → List ℕ → Option Refusal
 refusal-in room b =
-    or-next (if-so (no-firms b) Firms)
+    or-next (if-so (bad-firms b) Firms)
     (or-next (by-room room (firms-in b) (whole b))
-    (or-next (if-so (no-rows b) (Length (length b))) (by-rules (firms-in b) (invoices-in b))))
+    (or-next (if-so (bad-length b) (Length (length b))) (by-rules (firms-in b) (invoices-in b))))
 
 -- the answer: the refusal, or else a value
 abbrev pub answered : {A : Type 0} → Option Refusal → A → Result A Refusal
@@ -91,7 +90,7 @@ room-with room from to amount =
 pub record Writable (s : Size) (b from to amount : List ℕ) : Type 0 where
   pub firms : s .firms ≡ firms-in b
   pub invoices : s .invoices ≡ whole b
-  pub sound : Sound (firms-in b) (whole b) (λ e. invoice-at b e .from) (λ e. invoice-at b e .to) (λ e. invoice-at b e .amount)
+  pub sound : Sound-list (firms-in b) (invoices-in b)
   pub from-room : whole b ≤ length from
   pub to-room : whole b ≤ length to
   pub amount-room : whole b ≤ length amount

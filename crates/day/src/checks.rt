@@ -4,7 +4,7 @@ ghost use mathlib.Core.Bool.{cond};
 ghost use lib.Dec.{ltb};
 ghost use Rattle.std.specs.declared.option.Option.the-variants.{Some, None};
 ghost use Rattle.day.specs.File.{firms-in, whole, invoices-in};
-ghost use Rattle.day.specs.Reading.{no-firms, no-rows, by-room, by-rule, by-rules, refusal-in, answered, size-in};
+ghost use Rattle.day.specs.Reading.{bad-firms, bad-length, by-room, by-rule, by-rules, refusal-in, answered, size-in};
 use crate::invoices::Rule;
 use crate::layout::HEAD;
 use crate::layout::STRIDE;
@@ -19,7 +19,7 @@ use crate::sizes::Size;
 
 // The number of firms, if there is one within the limits.
 fn firms_of(file: &[u8]) -> Option<u16>
-    ensures { λ r. ⌜ r ≡ cond (no-firms (now (file .entry))) None (Some (firms-in (now (file .entry)))) ⌝ }
+    ensures { λ r. ⌜ r ≡ cond (bad-firms (now (file .entry))) None (Some (firms-in (now (file .entry)))) ⌝ }
 {
     let [low, high, ..] = file else {
         return None;
@@ -33,7 +33,7 @@ fn firms_of(file: &[u8]) -> Option<u16>
 
 // The number of invoices, if the file has twelve bytes for each and they are not too many.
 fn invoices_of(file: &[u8]) -> Option<usize>
-    ensures { λ r. ⌜ r ≡ cond (no-rows (now (file .entry))) None (Some (whole (now (file .entry)))) ⌝ }
+    ensures { λ r. ⌜ r ≡ cond (bad-length (now (file .entry))) None (Some (whole (now (file .entry)))) ⌝ }
 {
     let invoices = whole_invoices(file);
     if file.len() != HEAD + STRIDE * invoices || invoices > MOST_INVOICES {

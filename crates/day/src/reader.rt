@@ -2,7 +2,7 @@
 ghost use mathlib.Core.Path.{_≡_};
 ghost use Rattle.std.specs.Vec.{made};
 ghost use Rattle.day.specs.Bills.{Sound, reads};
-ghost use Rattle.day.specs.File.{from-row, to-row, amount-row};
+ghost use Rattle.day.specs.File.{invoices-in, debtors, creditors, amounts};
 ghost use Rattle.day.specs.Promise.{Refuses, Takes};
 ghost use Rattle.day.specs.Reading.{refusal-in, answered, size-in, row-read, row-after, room-with, Writable};
 use crate::checks::check;
@@ -31,9 +31,9 @@ fn judge(file: &[u8], from: &[u16], to: &[u16], amount: &[u64], room: Room) -> R
 // Writes the file's invoices into the first places of three rows.
 fn fill(file: &[u8], size: Size, from: &mut [u16], to: &mut [u16], amount: &mut [u64])
     requires { ⌜ Writable size (now file) (now from) (now to) (now amount) ⌝ }
-    ensures from { λ _. ⌜ now (from .exit) ≡ row-read (from-row (now (file .entry))) (now (from .entry)) ⌝ }
-    ensures to { λ _. ⌜ now (to .exit) ≡ row-read (to-row (now (file .entry))) (now (to .entry)) ⌝ }
-    ensures amount { λ _. ⌜ now (amount .exit) ≡ row-read (amount-row (now (file .entry))) (now (amount .entry)) ⌝ }
+    ensures from { λ _. ⌜ now (from .exit) ≡ row-read (debtors (invoices-in (now (file .entry)))) (now (from .entry)) ⌝ }
+    ensures to { λ _. ⌜ now (to .exit) ≡ row-read (creditors (invoices-in (now (file .entry)))) (now (to .entry)) ⌝ }
+    ensures amount { λ _. ⌜ now (amount .exit) ≡ row-read (amounts (invoices-in (now (file .entry)))) (now (amount .entry)) ⌝ }
     ensures sound { λ _. ⌜ Sound (size .firms) (size .invoices) (reads (now (from .exit))) (reads (now (to .exit))) (reads (now (amount .exit))) ⌝ }
 {
     for e in 0..size.invoices {
@@ -56,9 +56,9 @@ pub fn read(
     ensures answer { λ r. ⌜ r ≡ answered (refusal-in (room-with room (now (from .entry)) (now (to .entry)) (now (amount .entry))) (now (file .entry))) (size-in (now (file .entry))) ⌝ }
     ensures refused { λ r. ⌜ Refuses (room-with room (now (from .entry)) (now (to .entry)) (now (amount .entry))) (now (file .entry)) r ⌝ }
     ensures taken { λ r. ⌜ Takes r (now (from .exit)) (now (to .exit)) (now (amount .exit)) ⌝ }
-    ensures from { λ r. ⌜ now (from .exit) ≡ row-after r (from-row (now (file .entry))) (now (from .entry)) ⌝ }
-    ensures to { λ r. ⌜ now (to .exit) ≡ row-after r (to-row (now (file .entry))) (now (to .entry)) ⌝ }
-    ensures amount { λ r. ⌜ now (amount .exit) ≡ row-after r (amount-row (now (file .entry))) (now (amount .entry)) ⌝ }
+    ensures from { λ r. ⌜ now (from .exit) ≡ row-after r (debtors (invoices-in (now (file .entry)))) (now (from .entry)) ⌝ }
+    ensures to { λ r. ⌜ now (to .exit) ≡ row-after r (creditors (invoices-in (now (file .entry)))) (now (to .entry)) ⌝ }
+    ensures amount { λ r. ⌜ now (amount .exit) ≡ row-after r (amounts (invoices-in (now (file .entry)))) (now (amount .entry)) ⌝ }
 {
     match judge(file, from, to, amount, room) {
         Ok(size) => {

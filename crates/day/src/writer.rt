@@ -3,7 +3,8 @@ ghost use mathlib.Core.Path.{_≡_};
 ghost use mathlib.Core.List.{[], _++_};
 ghost use Rattle.std.specs.Of.Vec.{vec-items};
 ghost use Rattle.std.specs.Vec.{made};
-ghost use Rattle.day.specs.File.{firms-in, invoices-in, invoice-bytes, written, Fits};
+ghost use Rattle.day.specs.File.{invoice-bytes, written, Fits};
+ghost use Rattle.day.specs.Promise.{Brings};
 use crate::invoices::Invoice;
 use std::alloc::AllocError;
 use std::alloc::Global;
@@ -31,7 +32,7 @@ fn push_invoice(file: &mut Vec<u8>, invoice: Invoice) -> Result<(), AllocError>
 // The bytes of a day, whatever its numbers are: the reader says whether they keep the rules.
 pub fn write(heap: Global, firms: u16, invoices: &[Invoice]) -> Result<Vec<u8>, AllocError>
     ensures bytes { λ r. ⌜ made r (λ v. vec-items v ≡ written firms (now (invoices .entry))) ⌝ }
-    ensures back { λ r. ⌜ made r (λ v. (firms-in (vec-items v) ≡ firms) × (invoices-in (vec-items v) ≡ now (invoices .entry))) ⌝ }
+    ensures back { λ r. ⌜ made r (λ v. Brings firms (now (invoices .entry)) (vec-items v)) ⌝ }
 {
     let mut file = begin(heap, firms)?;
     for invoice in invoices {

@@ -5,9 +5,9 @@ use Rattle.std.specs.Of.Vec.{vec-items}
 use Rattle.std.specs.shelf.Lists.{All}
 use Rattle.std.proofs.shelf.Elements.{all-more}
 use Rattle.std.proofs.shelf.Lists.{take-all}
-use Rattle.day.specs.File.{written, firms-in, invoices-in, Fits}
+use Rattle.day.specs.File.{written, Fits}
 use Rattle.day.proofs.Rows.{blank}
-use Rattle.day.proofs.Written.{written-more, firms-back, invoices-back}
+use Rattle.day.proofs.Written.{written-more, written-brings}
 use Rattle.day.proofs.writer.write.Needs as need
 
 pub loop-invoice-again : need.loop-invoice-again
@@ -24,7 +24,5 @@ returns c =
     let is = c .args .invoices .now in
     let all = take-all (c .loop-invoice .invoice-index) is (omega arith) in
     let bytes : vec-items (c .loop-invoice .file) ≡ written n is = c .loop-invoice .inv .0 ∙ ap (written n) all in
-    record {
-      bytes = bytes;
-      back = (ap firms-in bytes ∙ firms-back n is (omega arith), ap invoices-in bytes ∙ invoices-back n is (subst (All Fits) all (c .loop-invoice .inv .1)));
-    }
+    let brings = written-brings n is (omega arith) (subst (All Fits) all (c .loop-invoice .inv .1)) in
+    record { bytes = bytes; back = rw bytes brings }
