@@ -17,7 +17,7 @@ use Rattle.day.specs.Rules.{breaks, refusal-by}
 use Rattle.day.specs.Reading.{first, by-rule}
 use Rattle.day.proofs.Rows.{length-invoices-in, getD-invoices-in}
 
-pub first-some : (test : Invoice → Bool) (is : List Invoice) (e : ℕ) → e < length is →
+first-some : (test : Invoice → Bool) (is : List Invoice) (e : ℕ) → e < length is →
     ((k : ℕ) (d : Invoice) → k < e → test (getD is k d) ≡ false) → ((d : Invoice) → test (getD is e d) ≡ true) →
     first test is ≡ Some e
 first-some test [] e h before here = absurd (not-suc-le-zero h)
@@ -26,7 +26,7 @@ first-some test (i ∷ is) (suc e) h before here =
     cond-false (test i) _ _ (before 0 i (omega arith))
     ∙ ap (mapped suc) (first-some test is e (le-of-suc-le-suc h) (λ k d l. before (suc k) d (suc-le-suc l)) here)
 
-pub first-none : (test : Invoice → Bool) (is : List Invoice) →
+first-none : (test : Invoice → Bool) (is : List Invoice) →
     ((k : ℕ) (d : Invoice) → k < length is → test (getD is k d) ≡ false) → first test is ≡ None
 first-none test [] none = refl
 first-none test (i ∷ is) none =
@@ -71,11 +71,7 @@ by-rule-none r n b none =
     (first-none (breaks r n) (invoices-in b)
     (λ k d l. let h : k < whole b = omega (arith, length-invoices-in b) in ap (breaks r n) (getD-invoices-in b k d h) ∙ none k h))
 
--- a check that handed nothing on, and one that handed its value on
+-- a check that handed nothing on
 pub true-from-none : {A : Type 0} (test : Bool) (x : A) (o : Option A) → o ≡ None → o ≡ cond test None (Some x) → test ≡ true
 true-from-none true x o none is = refl
 true-from-none false x o none is = cc
-
-pub value-from-some : {A : Type 0} (test : Bool) (x : A) (o : Option A) (y : A) → o ≡ Some y → o ≡ cond test None (Some x) → (test ≡ false) × (y ≡ x)
-value-from-some true x o y some is = absurd (let z : _≡_ {A = ℕ} 0 1 = cc in omega arith)
-value-from-some false x o y some is = (refl, cc)

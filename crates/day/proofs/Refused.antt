@@ -32,7 +32,7 @@ use Rattle.day.proofs.Turns.{Finds, finds-if, finds-next, finds-first, told-at
 decides-leb : (a b : ℕ) → Decides (leb a b) (a ≤ b)
 decides-leb a b = (leb-true a b, le-leb a b)
 
-pub decides-breaks : (r : Rule) (n : ℕ) (i : Invoice) → Decides (breaks r n i) (Fault r n i)
+decides-breaks : (r : Rule) (n : ℕ) (i : Invoice) → Decides (breaks r n i) (Fault r n i)
 decides-breaks FirmsThere n i = decides-or _ _ (decides-leb n (i .from)) (decides-leb n (i .to))
 decides-breaks TwoFirms n i = decides-eqb (i .from) (i .to)
 decides-breaks AmountInRange n i = decides-or _ _ (decides-eqb (i .amount) 0) (decides-ltb _ (i .amount))
@@ -51,11 +51,11 @@ module _ (B : Refusal → Type 0) (r : Rule) (n t : ℕ) (is : List Invoice) (tu
   finds-by None none =
       record {
         none = λ e q l h broken. let f = caught q (omega arith) broken in both-ways _ (none (place-of q) blank (f .0)) (f .1 blank);
-        some = λ s e. absurd (let z : _≡_ {A = ℕ} 0 1 = cc in omega arith);
+        some = λ s e. absurd (grind arith);
       }
   finds-by (Some e) here =
       record {
-        none = λ e. absurd (let z : _≡_ {A = ℕ} 0 1 = cc in omega arith);
+        none = λ e. absurd (grind arith);
         some = λ s found-s. let same : s ≡ refusal-by r e = cc in
             rw same (
               omega (arith, turns e),
@@ -70,7 +70,7 @@ module _ (B : Refusal → Type 0) (r : Rule) (n t : ℕ) (is : List Invoice) (tu
             );
       }
 
-  pub finds-rule : Finds B t (t + 1) (by-rule r n is)
+  finds-rule : Finds B t (t + 1) (by-rule r n is)
   finds-rule = finds-by (first (breaks r n) is) (found (breaks r n) is)
 
 module _ (room : Room) (b : List ℕ) where
@@ -114,7 +114,7 @@ module _ (room : Room) (b : List ℕ) where
       (finds-rule _ TwoFirms (firms-in b) 6 (invoices-in b) (λ e. refl) (λ e. refl) (λ q t. told-at 6 q t) (λ e. ((λ x. x), (λ x. x))))
       (finds-rule _ AmountInRange (firms-in b) 7 (invoices-in b) (λ e. refl) (λ e. refl) (λ q t. told-at 7 q t) (λ e. ((λ x. x), (λ x. x)))))
 
-  pub finds-refusal : Finds (Broken room b) 0 8 (refusal-in room b)
+  finds-refusal : Finds (Broken room b) 0 8 (refusal-in room b)
   unfolding refusal-in
   finds-refusal =
       finds-next _ 0 1 8 _ _ (omega arith) (omega arith)
@@ -122,7 +122,7 @@ module _ (room : Room) (b : List ℕ) where
       (finds-next _ 1 4 8 _ _ (omega arith) (omega arith) finds-room
       (finds-next _ 4 5 8 _ _ (omega arith) (omega arith) finds-length finds-rules))
 
-  pub refused-first : (r : Refusal) → (refusal-in room b ≡ Some r → First room b r) × (First room b r → refusal-in room b ≡ Some r)
+  refused-first : (r : Refusal) → (refusal-in room b ≡ Some r → First room b r) × (First room b r → refusal-in room b ≡ Some r)
   refused-first r =
       let both = finds-first (Broken room b) 8 (refusal-in room b) finds-refusal turn-below r in
       ((λ e. let f = both .0 e in record { broken = f .0; none-before = f .1 }), (λ f. both .1 (f .broken, f .none-before)))
@@ -141,8 +141,8 @@ none-from-unbroken room b unbroken = none-if room b (refusal-in room b) refl unb
 refuses-by : {A : Type 0} (room : Room) (b : List ℕ) (o : Option Refusal) (x : A) → refusal-in room b ≡ o → Refuses room b (answered o x)
 refuses-by room b None x e =
     λ r. (
-      (λ err. absurd (let z : _≡_ {A = ℕ} 0 1 = cc in omega arith)),
-      (λ f. let some = refused-first room b r .1 f in absurd (let z : _≡_ {A = ℕ} 0 1 = cc in omega arith)),
+      (λ err. absurd (grind arith)),
+      (λ f. let some = refused-first room b r .1 f in absurd (grind arith)),
     )
 refuses-by room b (Some q) x e =
     λ r. (

@@ -30,7 +30,7 @@ map-map g f (x ∷ xs) = ap (λ ys. g (f x) ∷ ys) (map-map g f xs)
 abbrev pub partly : (ℕ → ℕ) → ℕ → List ℕ → List ℕ
 partly f k old = map f (counting 0 k) ++ drop k old
 
-pub partly-more : (f : ℕ → ℕ) (k : ℕ) (old : List ℕ) → k < length old → set (partly f k old) k (f k) ≡ partly f (k + 1) old
+partly-more : (f : ℕ → ℕ) (k : ℕ) (old : List ℕ) → k < length old → set (partly f k old) k (f k) ≡ partly f (k + 1) old
 partly-more f k old h =
     ap (λ (t : List ℕ). set (map f (counting 0 k) ++ t) k (f k)) (drop-more old k 0 h)
     ∙ set-at (map f (counting 0 k)) (getD old k 0) (drop (k + 1) old) (f k) k (length-map-counting f 0 k)
@@ -38,7 +38,7 @@ partly-more f k old h =
     ∙ ap (λ (t : List ℕ). t ++ drop (k + 1) old) (sym (map-counting-more f 0 k k (omega arith)))
 
 -- all of them are
-pub partly-all : (get : Invoice → ℕ) (b old : List ℕ) →
+partly-all : (get : Invoice → ℕ) (b old : List ℕ) →
     partly (λ e. get (invoice-at b e)) (whole b) old ≡ map get (invoices-in b) ++ drop (length (map get (invoices-in b))) old
 unfolding invoices-in
 partly-all get b old =

@@ -72,7 +72,7 @@ module _ (room : Room) (b : List ℕ) (long : length b ≡ 2 + 12 * length (invo
 -- an answer that took the file
 none-from-ok : {A : Type 0} (o : Option Refusal) (x y : A) → Ok x ≡ answered o y → (o ≡ None) × (x ≡ y)
 none-from-ok None x y e = (refl, cc)
-none-from-ok (Some r) x y e = absurd (let z : _≡_ {A = ℕ} 0 1 = cc in omega arith)
+none-from-ok (Some r) x y e = absurd (grind arith)
 
 pub writable : (room : Room) (b f t a : List ℕ) (r : Result Size Refusal) → r ≡ answered (refusal-in (room-with room f t a) b) (size-in b) →
     made r (λ s. Writable s b f t a)

@@ -40,7 +40,7 @@ told-is (Amount e) = refl
 pub told-at : (t : ℕ) (q : Refusal) → turn q ≡ t → q ≡ told t (place-of q)
 told-at t q at = sym (told-is q) ∙ ap (λ (u : ℕ). told u (place-of q)) at
 
-pub same-refusal : (q r : Refusal) → turn q ≡ turn r → place-of q ≡ place-of r → q ≡ r
+same-refusal : (q r : Refusal) → turn q ≡ turn r → place-of q ≡ place-of r → q ≡ r
 same-refusal q r t p = told-at (turn r) q t ∙ ap (told (turn r)) p ∙ told-is r
 
 pub turn-below : (q : Refusal) → turn q < 8
@@ -75,7 +75,7 @@ pub finds-next : (B : Refusal → Type 0) (lo mid hi : ℕ) (o p : Option Refusa
     Finds B lo mid o → Finds B mid hi p → Finds B lo hi (or-next o p)
 finds-next B lo mid hi (Some r) p low high here next =
     record {
-      none = λ e. absurd (let z : _≡_ {A = ℕ} 0 1 = cc in omega arith);
+      none = λ e. absurd (grind arith);
       some = λ s e. let f = here .some s e in (f .0, (let l = f .1 in omega arith), f .2, f .3);
     }
 finds-next B lo mid hi None p low high here next =
@@ -100,7 +100,7 @@ pub finds-if : (B : Refusal → Type 0) (test : Bool) (r : Refusal) →
     Decides test (B r) → ((q : Refusal) → turn q ≡ turn r → B q → q ≡ r) → Finds B (turn r) (turn r + 1) (if-so test r)
 finds-if B true r tells only =
     record {
-      none = λ e. absurd (let z : _≡_ {A = ℕ} 0 1 = cc in omega arith);
+      none = λ e. absurd (grind arith);
       some = λ s e. let same : s ≡ r = cc in
           rw same (
             omega arith,
@@ -115,15 +115,15 @@ finds-if B true r tells only =
 finds-if B false r tells only =
     record {
       none = λ e q l h broken.
-          let f = tells .1 (subst B (only q (omega arith) broken) broken) in absurd (let z : _≡_ {A = ℕ} 0 1 = cc in omega arith);
-      some = λ s e. absurd (let z : _≡_ {A = ℕ} 0 1 = cc in omega arith);
+          let f = tells .1 (subst B (only q (omega arith) broken) broken) in absurd (grind arith);
+      some = λ s e. absurd (grind arith);
     }
 
 -- what the checks find is the first of all, and the first of all is what they find
 pub finds-first : (B : Refusal → Type 0) (hi : ℕ) (o : Option Refusal) → Finds B 0 hi o → ((q : Refusal) → turn q < hi) → (r : Refusal) →
     (o ≡ Some r → B r × ((q : Refusal) → Before q r → B q → ⊥)) × (B r × ((q : Refusal) → Before q r → B q → ⊥) → o ≡ Some r)
 finds-first B hi None found all r = (
-  (λ e. absurd (let z : _≡_ {A = ℕ} 0 1 = cc in omega arith)),
+  (λ e. absurd (grind arith)),
   (λ f. absurd (found .none refl r (omega arith) (all r) (f .0))),
 )
 finds-first B hi (Some s) found all r = (
