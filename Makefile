@@ -8,9 +8,9 @@ run:
 	rt check clear
 	target/bin/clear $(SAMPLE)
 
-# proves every crate from nothing, tries the must-fail edits, runs the programs and the tests
+# the gate: runs the program on the samples, then `rt ci`, which proves every crate from nothing and runs all tests
 test:
-	rt ci
+	.ci/run
 
 bench:
 	rt check bench

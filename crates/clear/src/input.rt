@@ -6,7 +6,13 @@ use std::io::Read;
 
 // The path that the arguments name, if they name one.
 fn path(rt: &LibcRuntime) -> Result<Option<String>, AnyError> {
-    let mut args = env::args(rt)?;
+    let mut args = match env::args(rt) {
+        Ok(args) => args,
+        Err(error) => {
+            eprintln!(rt, "clear: can't read the arguments: {error}")?;
+            return Err(error.into());
+        }
+    };
     let _ = args.next();
     let path = args.next();
     if args.next().is_some() {

@@ -39,7 +39,11 @@ fn judge(heap: Global, file: &[u8]) -> Result<Result<Size, Refusal>, AllocError>
 
 fn main(rt: LibcRuntime) -> Result<(), AnyError> {
     let file = input::read(&rt)?;
-    match judge(rt.alloc(), &file)? {
+    let Ok(answer) = judge(rt.alloc(), &file) else {
+        eprintln!(rt, "clear: there is not enough memory for the file")?;
+        return Err("no memory".into());
+    };
+    match answer {
         Ok(size) => {
             println!(rt, "taken: {size}")?;
             Ok(())
