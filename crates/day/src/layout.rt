@@ -10,14 +10,15 @@ pub(crate) const HEAD: usize = 2;
 
 pub(crate) const STRIDE: usize = 12;
 
-pub(crate) fn u16_at(file: &[u8], at: usize) -> u16
+// The number that two bytes write, and the one that eight bytes write.
+fn u16_at(file: &[u8], at: usize) -> u16
     requires { ⌜ at + 2 ≤ length (now file) ⌝ }
     ensures { λ r. ⌜ r ≡ two (now (file .entry)) at ⌝ }
 {
     u16::from_le_bytes([file[at], file[at + 1]])
 }
 
-pub(crate) fn u64_at(file: &[u8], at: usize) -> u64
+fn u64_at(file: &[u8], at: usize) -> u64
     requires { ⌜ at + 8 ≤ length (now file) ⌝ }
     ensures { λ r. ⌜ r ≡ eight (now (file .entry)) at ⌝ }
 {
@@ -33,6 +34,7 @@ pub(crate) fn u64_at(file: &[u8], at: usize) -> u64
     ])
 }
 
+// Invoice e of the file, which is long enough to have it.
 pub(crate) fn invoice_at(file: &[u8], e: usize) -> Invoice
     requires { ⌜ 2 + 12 * (e + 1) ≤ length (now file) ⌝ }
     ensures { λ r. ⌜ r ≡ invoice-at (now (file .entry)) e ⌝ }
@@ -45,6 +47,7 @@ pub(crate) fn invoice_at(file: &[u8], e: usize) -> Invoice
     }
 }
 
+// How many invoices a file of this length has whole: so many places a caller lends in each row for invoices.
 pub fn whole_invoices(file: &[u8]) -> usize
     ensures { λ r. ⌜ r ≡ whole (now (file .entry)) ⌝ }
 {

@@ -60,11 +60,7 @@ pub fn read(
     ensures to { λ r. ⌜ now (to .exit) ≡ row-after r (creditors (invoices-in (now (file .entry)))) (now (to .entry)) ⌝ }
     ensures amount { λ r. ⌜ now (amount .exit) ≡ row-after r (amounts (invoices-in (now (file .entry)))) (now (amount .entry)) ⌝ }
 {
-    match judge(file, from, to, amount, room) {
-        Ok(size) => {
-            fill(file, size, from, to, amount);
-            Ok(size)
-        }
-        Err(refusal) => Err(refusal),
-    }
+    let size = judge(file, from, to, amount, room)?;
+    fill(file, size, from, to, amount);
+    Ok(size)
 }

@@ -13,6 +13,7 @@ pub enum Kind {
     Rings,
 }
 
+// The rule that a day breaks, with the place where it does.
 #[derive(Clone, Copy, PartialEq, Eq, Debug)]
 pub enum Refusal {
     // the number of firms is missing, 0 or above 512
@@ -30,6 +31,7 @@ pub enum Refusal {
 }
 
 impl Refusal {
+    // The number of the rule in the list of refusals.
     pub fn number(self) -> u8
         ensures { λ r. ⌜ r ≡ number-of self ⌝ }
     {
@@ -43,6 +45,7 @@ impl Refusal {
         }
     }
 
+    // 0, the file's length, an invoice, or a kind of memory.
     pub fn place(self) -> usize
         ensures { λ r. ⌜ r ≡ place-of self ⌝ }
     {
