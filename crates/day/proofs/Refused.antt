@@ -14,6 +14,7 @@ use Rattle.std.specs.Orderings.{Decides}
 use Rattle.std.specs.declared.option.Option.{Option}
 use Rattle.std.specs.declared.option.Option.the-variants.{Some, None}
 use Rattle.std.specs.declared.result.Result.{Result}
+use Rattle.std.specs.declared.result.Result.the-variants.{Ok, Err}
 use Rattle.day.specs.declared.invoices.Invoice.{Invoice}
 use Rattle.day.specs.declared.invoices.Rule.{Rule}
 use Rattle.day.specs.declared.invoices.Rule.the-variants.{FirmsThere, TwoFirms, AmountInRange}
@@ -24,7 +25,7 @@ use Rattle.day.specs.declared.sizes.Room.{Room}
 use Rattle.day.specs.File.{firms-in, whole, invoices-in}
 use Rattle.day.specs.Rules.{breaks, refusal-by, place-of}
 use Rattle.day.specs.Reading.{if-so, first, by-rule, by-rules, by-room, bad-firms, bad-length, refusal-in, answered}
-use Rattle.day.specs.Promise.{Fault, Faulty, Broken, First, Refuses, turn}
+use Rattle.day.specs.Promise.{Fault, Faulty, Broken, First, Told, Due, Refuses, turn}
 use Rattle.day.proofs.Firsts.{Found, found}
 use Rattle.day.proofs.Rows.{blank}
 use Rattle.day.proofs.Turns.{Finds, finds-if, finds-next, finds-first, told-at, turn-below}
@@ -138,18 +139,31 @@ none-if room b (Some r) e unbroken = absurd (unbroken r (refused-first room b r 
 pub none-from-unbroken : (room : Room) (b : List ℕ) → ((q : Refusal) → Broken room b q → ⊥) → refusal-in room b ≡ None
 none-from-unbroken room b unbroken = none-if room b (refusal-in room b) refl unbroken
 
-refuses-by : {A : Type 0} (room : Room) (b : List ℕ) (o : Option Refusal) (x : A) → refusal-in room b ≡ o → Refuses room b (answered o x)
-refuses-by room b None x e =
+abbrev Exactly : {A : Type 0} → Room → List ℕ → Result A Refusal → Type 0
+Exactly room b answer = (r : Refusal) → (answer ≡ Err r → First room b r) × (First room b r → answer ≡ Err r)
+
+exactly-by : {A : Type 0} (room : Room) (b : List ℕ) (o : Option Refusal) (x : A) → refusal-in room b ≡ o → Exactly room b (answered o x)
+exactly-by room b None x e =
     λ r. (
       (λ err. absurd (grind arith)),
       (λ f. let some = refused-first room b r .1 f in absurd (grind arith)),
     )
-refuses-by room b (Some q) x e =
+exactly-by room b (Some q) x e =
     λ r. (
       (λ err. let same : q ≡ r = cc in refused-first room b r .0 (e ∙ ap Some same)),
       (λ f. let some = refused-first room b r .1 f in cc),
     )
 
+told-by : {A : Type 0} (room : Room) (b : List ℕ) (answer : Result A Refusal) → Exactly room b answer → (k p : ℕ) →
+    (Told answer k p → Due room b k p) × (Due room b k p → Told answer k p)
+told-by room b (Ok x) exactly k p = ((λ t. absurd t), (λ d. let err = exactly (d .0) .1 (d .1) in absurd (grind arith)))
+told-by room b (Err r) exactly k p = (
+  (λ t. (r, exactly r .0 refl, t .0, t .1)),
+  (λ d. let err = exactly (d .0) .1 (d .1) in let same : r ≡ d .0 = cc in rw same (d .2, d .3)),
+)
+
 -- an answer by the checks refuses exactly with the first refusal
 pub refuses : {A : Type 0} (room : Room) (b : List ℕ) (x : A) (r : Result A Refusal) → r ≡ answered (refusal-in room b) x → Refuses room b r
-refuses room b x r e = rw e (refuses-by room b (refusal-in room b) x refl)
+refuses room b x r e =
+    let exactly : Exactly room b r = rw e (exactly-by room b (refusal-in room b) x refl) in
+    record { exactly = exactly; told = told-by room b r exactly }

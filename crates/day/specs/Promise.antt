@@ -18,7 +18,7 @@ use Rattle.day.specs.declared.sizes.Room.{Room}
 use Rattle.day.specs.declared.sizes.Size.{Size}
 use Rattle.day.specs.Bills.{Sound, reads}
 use Rattle.day.specs.File.{firms-in, whole, invoices-in, Sound-list}
-use Rattle.day.specs.Rules.{place-of, kind-of}
+use Rattle.day.specs.Rules.{number-of, place-of, kind-of}
 use Rattle.day.specs.Reading.{refusal-in}
 
 -- what breaks a rule for invoices, on a day of n firms
@@ -60,11 +60,21 @@ pub record First (room : Room) (b : List ℕ) (r : Refusal) : Type 0 where
   pub broken : Broken room b r
   pub none-before : (q : Refusal) → Before q r → Broken room b q → ⊥
 
--- an answer refuses a file exactly with the first refusal
-abbrev pub Refuses : {A : Type 0} → Room → List ℕ → Result A Refusal → Type 0
-Refuses room b answer = (r : Refusal) → (answer ≡ Err r → First room b r) × (First room b r → answer ≡ Err r)
+-- an answer is a refusal with number k at place p
+abbrev pub Told : {A : Type 0} → Result A Refusal → ℕ → ℕ → Type 0
+Told (Ok x) k p = ⊥
+Told (Err r) k p = (number-of r ≡ k) × (place-of r ≡ p)
 
--- an answer takes a file only where the rows then hold a sound day
+-- number k is due at place p: its rule is broken there, and no rule before it is broken anywhere
+abbrev pub Due : Room → List ℕ → ℕ → ℕ → Type 0
+Due room b k p = (r : Refusal) × First room b r × (number-of r ≡ k) × (place-of r ≡ p)
+
+-- an answer refuses a file exactly with the first refusal: with the number and at the place that are due
+pub record Refuses {A : Type 0} (room : Room) (b : List ℕ) (answer : Result A Refusal) : Type 0 where
+  pub exactly : (r : Refusal) → (answer ≡ Err r → First room b r) × (First room b r → answer ≡ Err r)
+  pub told : (k p : ℕ) → (Told answer k p → Due room b k p) × (Due room b k p → Told answer k p)
+
+-- an answer takes a file only where the rows then hold a sound day, the one that `day-of` makes of them
 abbrev pub Takes : Result Size Refusal → List ℕ → List ℕ → List ℕ → Type 0
 Takes (Ok s) from to amount = Sound (s .firms) (s .invoices) (reads from) (reads to) (reads amount)
 Takes (Err r) from to amount = Unit {0}

@@ -15,5 +15,5 @@ returns c =
     (c .whole-invoices-invoices .ensures) (search needs) (search needs) (search needs) in
     record {
       answer = subst (λ room. c .read .result ≡ answered (refusal-in room b) (size-in b)) same (c .read .ensures .answer);
-      enough = λ k e. never-short b k (subst (λ room. First room b (Memory k)) same (c .read .ensures .refused (Memory k) .0 e));
+      enough = λ k e. never-short b k (subst (λ room. First room b (Memory k)) same (c .read .ensures .refused .exactly (Memory k) .0 e));
     }
