@@ -25,7 +25,7 @@ use Rattle.day.specs.declared.sizes.Room.{Room}
 use Rattle.day.specs.File.{firms-in, whole, invoices-in}
 use Rattle.day.specs.Rules.{breaks, refusal-by, place-of}
 use Rattle.day.specs.Reading.{if-so, first, by-rule, by-rules, by-room, bad-firms, bad-length, refusal-in, answered}
-use Rattle.day.specs.Promise.{Fault, Faulty, Broken, First, Told, Due, Refuses, turn}
+use Rattle.day.specs.Promise.{Fault, Faulty, Broken, First, Told, Due, Exactly, Refuses, turn}
 use Rattle.day.proofs.Firsts.{Found, found}
 use Rattle.day.proofs.Rows.{blank}
 use Rattle.day.proofs.Turns.{Finds, finds-if, finds-next, finds-first, told-at, turn-below}
@@ -138,9 +138,6 @@ none-if room b (Some r) e unbroken = absurd (unbroken r (refused-first room b r 
 -- where no rule is broken there is no refusal
 pub none-from-unbroken : (room : Room) (b : List ℕ) → ((q : Refusal) → Broken room b q → ⊥) → refusal-in room b ≡ None
 none-from-unbroken room b unbroken = none-if room b (refusal-in room b) refl unbroken
-
-abbrev Exactly : {A : Type 0} → Room → List ℕ → Result A Refusal → Type 0
-Exactly room b answer = (r : Refusal) → (answer ≡ Err r → First room b r) × (First room b r → answer ≡ Err r)
 
 exactly-by : {A : Type 0} (room : Room) (b : List ℕ) (o : Option Refusal) (x : A) → refusal-in room b ≡ o → Exactly room b (answered o x)
 exactly-by room b None x e =

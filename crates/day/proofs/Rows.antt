@@ -43,7 +43,6 @@ partly-all : (get : Invoice → ℕ) (b old : List ℕ) →
 unfolding invoices-in
 partly-all get b old =
     let row : map get (invoices-in b) ≡ map (λ e. get (invoice-at b e)) (counting 0 (whole b)) = map-map get (invoice-at b) (counting 0 (whole b)) in
-    let long : length (map get (invoices-in b)) ≡ whole b = ap length row ∙ length-map-counting (λ e. get (invoice-at b e)) 0 (whole b) in
     rw (row, length-map-counting (λ e. get (invoice-at b e)) 0 (whole b)) refl
 
 pub wrote : (f : ℕ → ℕ) (k : ℕ) (old now : List ℕ) (x : ℕ) → k < length old → now ≡ partly f k old → x ≡ f k → set now k x ≡ partly f (k + 1) old

@@ -5,6 +5,7 @@ use Prim.Native.Nat.{ℕ, zero, suc, _+_, _-_, _*_, _/_, _%_, _^_, _<_}
 use native.Mathlib.Nat.{le-of-suc-le-suc, not-suc-le-zero, mod-eq-of-lt}
 use native.Mathlib.Omega.{arith}
 use lib.Arith.{mod-mul}
+use lib.Dec.{lit<}
 use lib.ListN.{length, getD, take}
 use Rattle.std.specs.Joined.{joined}
 use Rattle.std.specs.shelf.Lists.{All}
@@ -22,21 +23,27 @@ three-parts w x y z a b c a′ b′ c′ first second third isa isb isc =
     third ∙ rw (second, first, isa, isb, isc) (append-assoc (w ++ a′) b′ c′ ∙ append-assoc w a′ (b′ ++ c′))
 
 -- the bytes of a number give it back
+digit : (x c : ℕ) → 0 < c → x % (256 * c) ≡ (x / c % 256) * c + x % c
+digit x c some = mod-mul x {m = 256} {c = c} (lit< tt) some
+
 two-back : (x : ℕ) → x < 256 ^ 2 → x % 256 + 256 * (x / 256 % 256) ≡ x
-two-back x h = omega (arith, mod-mul x {m = 256} {c = 256} (omega arith) (omega arith), mod-eq-of-lt h)
+two-back x h = omega (arith, digit x 256 (lit< tt), mod-eq-of-lt h)
 
 eight-back : (x : ℕ) → x < 256 ^ 8 →
     x % 256 + 256 * (x / 256 % 256) + 256 ^ 2 * (x / 256 ^ 2 % 256) + 256 ^ 3 * (x / 256 ^ 3 % 256)
     + 256 ^ 4 * (x / 256 ^ 4 % 256) + 256 ^ 5 * (x / 256 ^ 5 % 256) + 256 ^ 6 * (x / 256 ^ 6 % 256) + 256 ^ 7 * (x / 256 ^ 7 % 256) ≡ x
 eight-back x h =
-    let m1 = mod-mul x {m = 256} {c = 256} (omega arith) (omega arith) in
-    let m2 = mod-mul x {m = 256} {c = 256 ^ 2} (omega arith) (omega arith) in
-    let m3 = mod-mul x {m = 256} {c = 256 ^ 3} (omega arith) (omega arith) in
-    let m4 = mod-mul x {m = 256} {c = 256 ^ 4} (omega arith) (omega arith) in
-    let m5 = mod-mul x {m = 256} {c = 256 ^ 5} (omega arith) (omega arith) in
-    let m6 = mod-mul x {m = 256} {c = 256 ^ 6} (omega arith) (omega arith) in
-    let m7 = mod-mul x {m = 256} {c = 256 ^ 7} (omega arith) (omega arith) in
-    omega (arith, mod-eq-of-lt h)
+    omega (
+      arith,
+      digit x 256 (lit< tt),
+      digit x (256 ^ 2) (lit< tt),
+      digit x (256 ^ 3) (lit< tt),
+      digit x (256 ^ 4) (lit< tt),
+      digit x (256 ^ 5) (lit< tt),
+      digit x (256 ^ 6) (lit< tt),
+      digit x (256 ^ 7) (lit< tt),
+      mod-eq-of-lt h,
+    )
 
 length-joined : (is : List Invoice) → length (joined invoice-bytes is) ≡ 12 * length is
 length-joined [] = refl

@@ -69,9 +69,13 @@ Told (Err r) k p = (number-of r ≡ k) × (place-of r ≡ p)
 abbrev pub Due : Room → List ℕ → ℕ → ℕ → Type 0
 Due room b k p = (r : Refusal) × First room b r × (number-of r ≡ k) × (place-of r ≡ p)
 
--- an answer refuses a file exactly with the first refusal: with the number and at the place that are due
+-- an answer is a refusal exactly where it is the first one
+abbrev pub Exactly : {A : Type 0} → Room → List ℕ → Result A Refusal → Type 0
+Exactly room b answer = (r : Refusal) → (answer ≡ Err r → First room b r) × (First room b r → answer ≡ Err r)
+
+-- so it refuses a file with the number and at the place that are due, and with no other
 pub record Refuses {A : Type 0} (room : Room) (b : List ℕ) (answer : Result A Refusal) : Type 0 where
-  pub exactly : (r : Refusal) → (answer ≡ Err r → First room b r) × (First room b r → answer ≡ Err r)
+  pub exactly : Exactly room b answer
   pub told : (k p : ℕ) → (Told answer k p → Due room b k p) × (Due room b k p → Told answer k p)
 
 -- an answer takes a file only where the rows then hold a sound day, the one that `day-of` makes of them

@@ -1,11 +1,16 @@
 // The bytes of a file, and the lines that are printed.
 use crate::helpers::invoice;
+use crate::helpers::taken;
 use day::Kind;
 use day::MOST_CENTS;
 use day::Refusal;
+use day::RefusalDebug;
 use day::RefusalDisplay;
+use day::RefusalPartialEq;
 use day::Size;
+use day::SizeDebug;
 use day::SizeDisplay;
+use day::SizePartialEq;
 use std::test::*;
 
 // The layout, byte by byte: each number with its low byte first.
@@ -34,7 +39,10 @@ fn read_back(rt: LibcRuntime) -> Result<(), Fail> {
         numbers: 512,
         rings: 514,
     };
-    let _ = day::read(&file, &mut from, &mut to, &mut amount, room);
+    check_eq(
+        day::read(&file, &mut from, &mut to, &mut amount, room),
+        taken(512, 2),
+    )?;
     check_eq(from, [258, 0])?;
     check_eq(to, [511, 257])?;
     check_eq(amount, [MOST_CENTS, 72_623_859_790])
