@@ -2,7 +2,9 @@
 use mathlib.Core.Bool.{Bool, true, false}
 use mathlib.Core.List.{List}
 use mathlib.Core.Logic.{_≢_}
-use Prim.Native.Nat.{ℕ, zero, suc, _+_, _^_, _≤_, _<_}
+use mathlib.Core.Path.{_≡_}
+use Prim.Native.Nat.{ℕ, zero, suc, _+_, _*_, _-_, _^_, _≤_, _<_}
+use lib.Dec.{eqb}
 use lib.ListN.{getD}
 
 abbrev pub pick : {A : Type 0} → Bool → A → A → A
@@ -43,3 +45,33 @@ day-of n k from to amount s =
 -- a row of numbers, as a function of the place
 abbrev pub reads : List ℕ → ℕ → ℕ
 reads xs e = getD xs e 0
+
+-- what firm v is let off, on the invoices that it owes, and what it lets others off, on those that are owed to it
+unfoldable pub let-off : Day → (ℕ → ℕ) → ℕ → ℕ
+let-off d s v = span (λ e. pick (eqb (d .from e) v) (s e) 0) (d .invoices)
+
+unfoldable pub lets-off : Day → (ℕ → ℕ) → ℕ → ℕ
+lets-off d s v = span (λ e. pick (eqb (d .to e) v) (s e) 0) (d .invoices)
+
+-- a set-off takes from each invoice no more than it is, and leaves each firm as much better off as worse
+pub record Set-off (d : Day) (s : ℕ → ℕ) : Type 0 where
+  pub within : (e : ℕ) → e < d .invoices → s e ≤ d .amount e
+  pub even : (v : ℕ) → v < d .firms → let-off d s v ≡ lets-off d s v
+
+-- what is struck out in all
+abbrev pub total : Day → (ℕ → ℕ) → ℕ
+total d s = span s (d .invoices)
+
+-- no set-off whatever has a larger total
+pub record Greatest (d : Day) (s : ℕ → ℕ) : Type 0 where
+  pub is : Set-off d s
+  pub most : (q : ℕ → ℕ) → Set-off d q → total d q ≤ total d s
+
+-- the bound of heights: an invoice counts as many times as the height of who owes it, and one, are above the height of who is owed
+unfoldable pub bound : Day → (ℕ → ℕ) → ℕ
+bound d h = span (λ e. d .amount e * ((h (d .from e) + 1) - h (d .to e))) (d .invoices)
+
+-- a way from firm to firm along invoices, each with something left; a ring where it ends at its first firm
+pub data Ring (d : Day) (left : ℕ → ℕ) : ℕ → ℕ → Type 0 where
+  one : (e : ℕ) → e < d .invoices → 0 < left e → Ring d left (d .from e) (d .to e)
+  more : {v : ℕ} (e : ℕ) → Ring d left v (d .from e) → e < d .invoices → 0 < left e → Ring d left v (d .to e)

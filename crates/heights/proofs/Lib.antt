@@ -1,0 +1,3 @@
+pub mod Duality
+pub mod Repeats
+pub mod Searching

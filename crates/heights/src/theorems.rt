@@ -1,0 +1,2 @@
+// The theorems of the clearing day, each as the contract of a function.
+fn nothing() {}

@@ -1,0 +1,4 @@
+// Set-offs over a day's invoices: what each firm is let off and lets off, the total, and whether all firms are even.
+mod invoices;
+
+pub use invoices::Invoices;
