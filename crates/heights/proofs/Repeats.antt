@@ -4,9 +4,10 @@ use mathlib.Core.Path.{_≡_, _∙_, refl, sym, ap}
 use Prim.Native.Nat.{ℕ, zero, suc, _+_, _*_, _≤_, _<_}
 use native.Mathlib.Omega.{arith}
 use lib.Dec.{eqb}
-use Rattle.std.proofs.shelf.Tests.{cases-eq}
+use Rattle.std.proofs.shelf.Tests.{cases-eq, eqb-true, eqb-false}
 use Rattle.day.specs.Bills.{pick, span}
-use Rattle.setoff.proofs.Spans.{pick-same, pick-other, span-ext, span-le, span-bound, span-none, weigh}
+use Rattle.setoff.proofs.Places.{some-below}
+use Rattle.setoff.proofs.Spans.{pick-same, pick-other, span-bound, span-none, weigh}
 
 -- the first k numbers differ from one another
 abbrev pub Apart-below : (ℕ → ℕ) → ℕ → Type 0
@@ -21,26 +22,18 @@ pub record Repeat (u : ℕ → ℕ) (k : ℕ) : Type 0 where
   pub same : u first ≡ u again
   pub apart : Apart-below u again
 
--- whether x is among the first k numbers
-find : (u : ℕ → ℕ) (x k : ℕ) → ((i : ℕ) × (i < k) × (u i ≡ x)) ⊎ ((i : ℕ) → i < k → u i ≢ x)
-find u x zero = inr (λ i l. omega arith)
-find u x (suc k) = elim (find u x k) [
-  | inl found ↦ inl (found .0, omega arith, found .2)
-  | inr none ↦ elim (cases-eq (u k) x) [
-    | inl same ↦ inl (k, omega arith, same)
-    | inr other ↦ inr (λ i l. elim (cases-eq i k) [ inl at ↦ λ e. other (ap u (sym at) ∙ e) | inr before ↦ none i (omega arith) ])
-  ]
-]
-
 apart-or-repeat : (u : ℕ → ℕ) (k : ℕ) → Apart-below u k ⊎ Repeat u k
 apart-or-repeat u zero = inl (λ i j l m. omega arith)
 apart-or-repeat u (suc k) = elim (apart-or-repeat u k) [
   | inr r ↦
     inr record { first = r .first; again = r .again; after = r .after; below = omega (arith, r .below); same = r .same; apart = r .apart }
-  | inl apart ↦ elim (find u (u k) k) [
-    | inl found ↦ inr record { first = found .0; again = k; after = found .1; below = omega arith; same = found .2; apart = apart }
+  | inl apart ↦ elim (some-below (λ i. eqb (u i) (u k)) k) [
+    | inl (i , there , same) ↦ inr record { first = i; again = k; after = there; below = omega arith; same = eqb-true (u i) (u k) same; apart = apart }
     | inr none ↦ inl
-      (λ i j l m. elim (cases-eq j k) [ inl at ↦ λ e. none i (omega arith) (e ∙ ap u at) | inr before ↦ apart i j l (omega arith) ])
+      (λ i j l m. elim (cases-eq j k) [
+        | inl at ↦ λ e. eqb-false (u i) (u k) (none i (omega arith)) (e ∙ ap u at)
+        | inr before ↦ apart i j l (omega arith)
+      ])
   ]
 ]
 

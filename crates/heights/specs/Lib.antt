@@ -1,3 +1,4 @@
 pub mod Network
 pub mod Residual
 pub mod Search
+pub mod Promise

@@ -1,1 +1,4 @@
 pub mod Spans
+pub mod Places
+pub mod Positions
+pub mod Sorts
