@@ -30,14 +30,14 @@ chain-gains S num when rank u at m some links tails closed =
     let gs = span-add (λ j. num (u (suc j))) (λ j. S .up (at j)) m in
     let shift = around num u m closed in
     elim (cases-lt (span (λ j. S .down (at j)) m) (span (λ j. S .up (at j)) m)) [
-    | inl gains ↦ gains
-    | inr none ↦
-      let tight = span-tight f g m le (omega (arith, span-le f g m le)) in
-      let falls : (j : ℕ) → j < m → 1 + rank (u (suc j)) ≤ rank (u j)
-      = λ j l. omega (arith, links j l .falls (tight j l ∙ ap (λ z. num z + S .up (at j)) (sym (tails j l))), ap rank (tails j l)) in
-      let sum = span-le (λ j. 1 + rank (u (suc j))) (λ j. rank (u j)) m falls in
-      let one = span-at (λ j. 1) m 0 some in
-      absurd (omega (arith, span-add (λ j. 1) (λ j. rank (u (suc j))) m, around rank u m closed))
+      | inl gains ↦ gains
+      | inr none ↦
+          let tight = span-tight f g m le (omega (arith, span-le f g m le)) in
+          let falls : (j : ℕ) → j < m → 1 + rank (u (suc j)) ≤ rank (u j)
+          = λ j l. omega (arith, links j l .falls (tight j l ∙ ap (λ z. num z + S .up (at j)) (sym (tails j l))), ap rank (tails j l)) in
+          let sum = span-le (λ j. 1 + rank (u (suc j))) (λ j. rank (u j)) m falls in
+          let one = span-at (λ j. 1) m 0 some in
+          absurd (omega (arith, span-add (λ j. 1) (λ j. rank (u (suc j))) m, around rank u m closed))
     ]
 
 -- potentials by which no open step would gain leave no ring that gains
@@ -76,28 +76,30 @@ module _ (S : Steps) (tails-there : (f : ℕ) → f < S .steps → S .tail f < S
       let links : (j : ℕ) → j < m → Link S num (at .when) (at .rank) (u j) (steps j) = λ j l. linked v (from + j) (long (from + j) (omega arith)) in
       let tails : (j : ℕ) → j < m → S .tail (steps j) ≡ u (suc j) = λ j l. ap b (let e : suc (from + j) ≡ from + suc j = omega arith in e) in
       let closed : u m ≡ u 0
-      = ap b (let e : from + m ≡ r .again = omega arith in e) ∙ sym (r .same) ∙ ap b (let e : from ≡ from + 0 = omega arith in e) in
-      (m,
-      u,
-      steps,
-      record {
-        some = omega arith;
-        there = λ j l. links j l .there;
-        heads = λ j l. links j l .ends;
-        tails = tails;
-        closed = closed;
-        apart = λ i j l below-m. r .apart (from + i) (from + j) (omega arith) (omega arith);
-        gains = chain-gains S num (at .when) (at .rank) u steps m (omega arith) links tails closed;
-      })
+      = ap b (let e : from + m ≡ r .again = omega arith in e) ∙ sym (r .same) ∙ ap b (let e : from ≡ from + 0 = omega arith in e) in (
+        m,
+        u,
+        steps,
+        record {
+          some = omega arith;
+          there = λ j l. links j l .there;
+          heads = λ j l. links j l .ends;
+          tails = tails;
+          closed = closed;
+          apart = λ i j l below-m. r .apart (from + i) (from + j) (omega arith) (omega arith);
+          gains = chain-gains S num (at .when) (at .rank) u steps m (omega arith) links tails closed;
+        },
+      )
 
   -- a node that was raised in round n or later has such a chain behind it
   when-back : (v j : ℕ) → j ≤ at .when v → (at .when v ≤ at .when (back S last v j) + j) × Long v j
   when-back v zero h = (omega arith, λ t l. absurd (omega arith))
   when-back v (suc j) h =
       let ih = when-back v j (omega arith) in
-      let some : last (back S last v j) ≢ 0 = λ e. (let none = at .root (back S last v j) e .1 in omega (arith, ih .0)) in
-      (omega (arith, ih .0, linked v j some .soon),
-      λ t l. elim (cases-eq t j) [ inl here ↦ λ e. some (ap (λ z. last (back S last v z)) (sym here) ∙ e) | inr before ↦ ih .1 t (omega arith) ])
+      let some : last (back S last v j) ≢ 0 = λ e. (let none = at .root (back S last v j) e .1 in omega (arith, ih .0)) in (
+        omega (arith, ih .0, linked v j some .soon),
+        λ t l. elim (cases-eq t j) [ inl here ↦ λ e. some (ap (λ z. last (back S last v z)) (sym here) ∙ e) | inr before ↦ ih .1 t (omega arith) ],
+      )
 
   pub late-ring : (v : ℕ) → v < S .nodes → S .nodes ≤ at .when v → (m : ℕ) × (u : ℕ → ℕ) × (steps : ℕ → ℕ) × Gaining S m u steps
   late-ring v h late = long-ring v h (when-back v (S .nodes) late .1)
@@ -110,7 +112,7 @@ module _ (S : Steps) (tails-there : (f : ℕ) → f < S .steps → S .tail f < S
     | inr long ↦ elim (cases-eq (last (back S last v j)) 0) [
       | inl root ↦ inl (j, omega arith, root, long)
       | inr some ↦ inr
-        (λ t l. elim (cases-eq t j) [ inl here ↦ λ e. some (ap (λ z. last (back S last v z)) (sym here) ∙ e) | inr before ↦ long t (omega arith) ])
+          (λ t l. elim (cases-eq t j) [ inl here ↦ λ e. some (ap (λ z. last (back S last v z)) (sym here) ∙ e) | inr before ↦ long t (omega arith) ])
     ]
   ]
 

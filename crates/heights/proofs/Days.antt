@@ -9,7 +9,7 @@ use Rattle.day.specs.Bills.{Day, pick, span, let-off, lets-off, Set-off, total,
 use Rattle.setoff.specs.Promise.{left-by}
 use Rattle.setoff.proofs.Spans.{pick-same, pick-other, span-differ}
 use Rattle.heights.specs.Network.{Network, network-of, outflow, inflow, Circulation, gain, Maximum, dual, Fit, Certified}
-use Rattle.heights.specs.Promise.{Fits, Shown, Always, Always-from, Heights-bound, Meets-is-greatest, Slackness, No-ring-left, raised, Raise}
+use Rattle.heights.specs.Promise.{Fits, Shown, Always, Heights-bound, Meets-is-greatest, Slackness, No-ring-left, raised, Raise}
 use Rattle.heights.proofs.Duality.{gain-le-dual, tight-fit, fit-tight, tight-maximum}
 use Rattle.heights.proofs.Existence.{from-any, nothing-even}
 
@@ -63,10 +63,6 @@ shown certified =
       low = certified .low;
       least = λ g fitting. certified .least g (fit fitting);
     }
-
-pub always-from : Always-from
-unfolding Always-from
-always-from = from-any
 
 pub always : Always
 unfolding Always

@@ -16,52 +16,52 @@ part-le : (s a x y : ℕ) → s ≤ a → s * x ≤ s * y + a * (x - y)
 part-le s a x y h = elim (cases-lt x y) [
   | inl below ↦ let m = mul-le-mul-left {m = x} {n = y} s (omega arith) in omega arith
   | inr above ↦
-    let d = x - y in
-    let m = mul-le-mul-right {m = s} {n = a} d h in
-    let e : s * x ≡ s * y + s * d = ap (λ z. s * z) (let f : x ≡ y + d = omega arith in f) ∙ omega arith in
-    omega arith
+      let d = x - y in
+      let m = mul-le-mul-right {m = s} {n = a} d h in
+      let e : s * x ≡ s * y + s * d = ap (λ z. s * z) (let f : x ≡ y + d = omega arith in f) ∙ omega arith in
+      omega arith
 ]
 
 part-tight : (s a x y : ℕ) → s ≤ a → s * x ≡ s * y + a * (x - y) → (s < a → x ≤ y) × (0 < s → y ≤ x)
 part-tight s a x y h all = elim (cases-lt x y) [
   | inl below ↦
-    let none : a * (x - y) ≡ 0 = ap (λ z. a * z) (let f : x - y ≡ 0 = omega arith in f) ∙ omega arith in
-    let m = mul-le-mul-left {m = x + 1} {n = y} s (omega arith) in
-    (λ l. omega arith, λ l. omega arith)
+      let none : a * (x - y) ≡ 0 = ap (λ z. a * z) (let f : x - y ≡ 0 = omega arith in f) ∙ omega arith in
+      let m = mul-le-mul-left {m = x + 1} {n = y} s (omega arith) in
+      (λ l. omega arith, λ l. omega arith)
   | inr above ↦
-    let d = x - y in
-    let e : s * x ≡ s * y + s * d = ap (λ z. s * z) (let f : x ≡ y + d = omega arith in f) ∙ omega arith in
-    (λ l. let m = mul-le-mul-right {m = s + 1} {n = a} d (omega arith) in omega arith, λ l. omega arith)
+      let d = x - y in
+      let e : s * x ≡ s * y + s * d = ap (λ z. s * z) (let f : x ≡ y + d = omega arith in f) ∙ omega arith in
+      (λ l. let m = mul-le-mul-right {m = s + 1} {n = a} d (omega arith) in omega arith, λ l. omega arith)
 ]
 
 part-fit : (s a x y : ℕ) → s ≤ a → (s < a → x ≤ y) → (0 < s → y ≤ x) → s * x ≡ s * y + a * (x - y)
 part-fit s a x y h left used = elim (cases-eq s a) [
   | inl all ↦ elim (cases-eq s 0) [
     | inl none ↦
-      let p : s * x ≡ 0 = ap (λ z. z * x) none ∙ omega arith in
-      let q : s * y ≡ 0 = ap (λ z. z * y) none ∙ omega arith in
-      let r : a * (x - y) ≡ 0 = ap (λ z. z * (x - y)) (sym all ∙ none) ∙ omega arith in
-      omega arith
+        let p : s * x ≡ 0 = ap (λ z. z * x) none ∙ omega arith in
+        let q : s * y ≡ 0 = ap (λ z. z * y) none ∙ omega arith in
+        let r : a * (x - y) ≡ 0 = ap (λ z. z * (x - y)) (sym all ∙ none) ∙ omega arith in
+        omega arith
     | inr some ↦
-      let above : y ≤ x = used (omega arith) in
-      let d = x - y in
-      let e : s * x ≡ s * y + s * d = ap (λ z. s * z) (let f : x ≡ y + d = omega arith in f) ∙ omega arith in
-      let g : s * d ≡ a * d = ap (λ z. z * d) all in
-      omega arith
+        let above : y ≤ x = used (omega arith) in
+        let d = x - y in
+        let e : s * x ≡ s * y + s * d = ap (λ z. s * z) (let f : x ≡ y + d = omega arith in f) ∙ omega arith in
+        let g : s * d ≡ a * d = ap (λ z. z * d) all in
+        omega arith
   ]
   | inr part ↦
-    let below : x ≤ y = left (omega arith) in
-    let none : a * (x - y) ≡ 0 = ap (λ z. a * z) (let f : x - y ≡ 0 = omega arith in f) ∙ omega arith in
-    elim (cases-eq s 0) [
-    | inl zero′ ↦
-      let p : s * x ≡ 0 = ap (λ z. z * x) zero′ ∙ omega arith in
-      let q : s * y ≡ 0 = ap (λ z. z * y) zero′ ∙ omega arith in
-      omega arith
-    | inr some ↦
-      let same : x ≡ y = (let above = used (omega arith) in omega arith) in
-      let e : s * x ≡ s * y = ap (λ z. s * z) same in
-      omega arith
-    ]
+      let below : x ≤ y = left (omega arith) in
+      let none : a * (x - y) ≡ 0 = ap (λ z. a * z) (let f : x - y ≡ 0 = omega arith in f) ∙ omega arith in
+      elim (cases-eq s 0) [
+        | inl zero′ ↦
+            let p : s * x ≡ 0 = ap (λ z. z * x) zero′ ∙ omega arith in
+            let q : s * y ≡ 0 = ap (λ z. z * y) zero′ ∙ omega arith in
+            omega arith
+        | inr some ↦
+            let same : x ≡ y = (let above = used (omega arith) in omega arith) in
+            let e : s * x ≡ s * y = ap (λ z. s * z) same in
+            omega arith
+      ]
 ]
 
 module _ (N : Network) (s h : ℕ → ℕ) where

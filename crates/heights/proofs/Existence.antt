@@ -34,9 +34,11 @@ module _ (N : Network) (s : ℕ → ℕ) where
       half : (b : Bool) → (2 * e + pick b 0 1) / 2 ≡ e
       half true = omega arith
       half false = omega arith
+
       forth : (b : Bool) → along (2 * e + pick b 0 1) ≡ b
       forth true = eq-eqb ((2 * e + 0) % 2) 0 (omega arith)
       forth false = ne-eqb ((2 * e + 1) % 2) 0 (omega arith)
+
       below : (b : Bool) → 2 * e + pick b 0 1 < 2 * N .arcs
       below true = omega arith
       below false = omega arith
@@ -103,7 +105,7 @@ climb N zero s even more = absurd (omega (arith, gain-le N s even))
 climb N (suc fuel) s even more = elim (answer (residual N s 1) (tails-there N s)) [
   | fits k i num last at all ↦ (s, num, certified N s even k i num last at all)
   | rings m u at ring ↦
-    climb N fuel (pushed-all s at 1 m) (ring-circulation N s 1 m u at even ring) (omega (arith, ring-gain N s 1 m u at even ring (omega arith)))
+      climb N fuel (pushed-all s at 1 m) (ring-circulation N s 1 m u at even ring) (omega (arith, ring-gain N s 1 m u at even ring (omega arith)))
 ]
 
 pub from-any : (N : Network) (s : ℕ → ℕ) → Circulation N s → (q : ℕ → ℕ) × (h : ℕ → ℕ) × Certified N q h

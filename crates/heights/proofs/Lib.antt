@@ -6,3 +6,4 @@ pub mod Rounds
 pub mod Pushing
 pub mod Existence
 pub mod Days
+pub mod Examples

@@ -63,9 +63,9 @@ same-step : (f g : ℕ) → g / 2 ≡ f / 2 → along f ≡ along g → g ≡ f
 same-step f g half e = elim (cases-bool (along f)) [
   | inl forth ↦ omega (arith, eqb-true (f % 2) 0 forth, eqb-true (g % 2) 0 (sym e ∙ forth))
   | inr back ↦
-    let p : f % 2 ≢ 0 = eqb-false (f % 2) 0 back in
-    let q : g % 2 ≢ 0 = eqb-false (g % 2) 0 (sym e ∙ back) in
-    omega arith
+      let p : f % 2 ≢ 0 = eqb-false (f % 2) 0 back in
+      let q : g % 2 ≢ 0 = eqb-false (g % 2) 0 (sym e ∙ back) in
+      omega arith
 ]
 
 module _ (N : Network) (s : ℕ → ℕ) (f c : ℕ) (there : f < 2 * N .arcs) (enough : c ≤ room-of N s f) where
@@ -103,8 +103,8 @@ module _ (N : Network) (s : ℕ → ℕ) (f c : ℕ) (there : f < 2 * N .arcs) (
   pub push-within : ((e : ℕ) → e < N .arcs → s e ≤ N .capacity e) → (e : ℕ) → e < N .arcs → pushed s f c e ≤ N .capacity e
   push-within within e l = elim (cases-eq e i) [
     | inl same ↦
-      subst (λ z. pushed s f c z ≤ N .capacity z) (sym same)
-      (rw (pushed-at s f c i refl) (stays-within (along f) (N .capacity i) (s i) c (within i arc-there) enough))
+        subst (λ z. pushed s f c z ≤ N .capacity z) (sym same)
+        (rw (pushed-at s f c i refl) (stays-within (along f) (N .capacity i) (s i) c (within i arc-there) enough))
     | inr other ↦ rw (pushed-other s f c e other) (within e l)
   ]
 
@@ -113,9 +113,9 @@ module _ (N : Network) (s : ℕ → ℕ) (f c : ℕ) (there : f < 2 * N .arcs) (
   push-room g ne = elim (cases-eq (g / 2) i) [
     | inr other ↦ rw (pushed-other s f c (g / 2) other) (omega arith)
     | inl same ↦
-      let turned : along f ≢ along g = λ e. ne (same-step f g same e) in
-      subst (λ z. pick (along g) (N .capacity z - s z) (s z) ≤ pick (along g) (N .capacity z - pushed s f c z) (pushed s f c z)) (sym same)
-      (rw (pushed-at s f c i refl) (opposite (along f) (along g) (N .capacity i) (s i) c turned enough))
+        let turned : along f ≢ along g = λ e. ne (same-step f g same e) in
+        subst (λ z. pick (along g) (N .capacity z - s z) (s z) ≤ pick (along g) (N .capacity z - pushed s f c z) (pushed s f c z)) (sym same)
+        (rw (pushed-at s f c i refl) (opposite (along f) (along g) (N .capacity i) (s i) c turned enough))
   ]
 
 -- round a ring, after j of its steps

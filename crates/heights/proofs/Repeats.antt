@@ -26,14 +26,14 @@ apart-or-repeat : (u : ℕ → ℕ) (k : ℕ) → Apart-below u k ⊎ Repeat u k
 apart-or-repeat u zero = inl (λ i j l m. omega arith)
 apart-or-repeat u (suc k) = elim (apart-or-repeat u k) [
   | inr r ↦
-    inr record { first = r .first; again = r .again; after = r .after; below = omega (arith, r .below); same = r .same; apart = r .apart }
+      inr record { first = r .first; again = r .again; after = r .after; below = omega (arith, r .below); same = r .same; apart = r .apart }
   | inl apart ↦ elim (some-below (λ i. eqb (u i) (u k)) k) [
-    | inl (i , there , same) ↦ inr record { first = i; again = k; after = there; below = omega arith; same = eqb-true (u i) (u k) same; apart = apart }
+    | inl (i, there, same) ↦ inr record { first = i; again = k; after = there; below = omega arith; same = eqb-true (u i) (u k) same; apart = apart }
     | inr none ↦ inl
-      (λ i j l m. elim (cases-eq j k) [
-        | inl at ↦ λ e. eqb-false (u i) (u k) (none i (omega arith)) (e ∙ ap u at)
-        | inr before ↦ apart i j l (omega arith)
-      ])
+        (λ i j l m. elim (cases-eq j k) [
+          | inl at ↦ λ e. eqb-false (u i) (u k) (none i (omega arith)) (e ∙ ap u at)
+          | inr before ↦ apart i j l (omega arith)
+        ])
   ]
 ]
 
@@ -43,11 +43,11 @@ unfolding span
 once u v zero apart = omega arith
 once u v (suc k) apart = elim (cases-eq (u k) v) [
   | inl here ↦
-    let none = span-none (λ j. pick (eqb (u j) v) 1 0) k (λ j l. pick-other (u j) v 1 0 (λ e. apart j k l (omega arith) (e ∙ sym here))) in
-    omega (arith, pick-same {A = ℕ} (u k) v 1 0 here)
+      let none = span-none (λ j. pick (eqb (u j) v) 1 0) k (λ j l. pick-other (u j) v 1 0 (λ e. apart j k l (omega arith) (e ∙ sym here))) in
+      omega (arith, pick-same {A = ℕ} (u k) v 1 0 here)
   | inr other ↦
-    let ih = once u v k (λ i j l m. apart i j l (omega arith)) in
-    omega (arith, pick-other {A = ℕ} (u k) v 1 0 other)
+      let ih = once u v k (λ i j l m. apart i j l (omega arith)) in
+      omega (arith, pick-other {A = ℕ} (u k) v 1 0 other)
 ]
 
 ones : (k : ℕ) → span (λ j. 1 * 1) k ≡ k

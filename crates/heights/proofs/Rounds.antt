@@ -27,10 +27,10 @@ step S k i st = elim (cases-lt i (S .steps)) [
     | inr enough ↦ elim (cases-lt (st .num (S .head i) + S .down i) (st .num (S .tail i) + S .up i)) [
       | inr fitted ↦ pass S k i st (λ o. fitted)
       | inl gain ↦ record {
-          num = put (st .num) (S .head i) ((st .num (S .tail i) + S .up i) - S .down i);
-          last = put (st .last) (S .head i) (suc i);
-          kept = raises S k i (st .num) (st .last) (st .kept) (there, enough) gain;
-        }
+        num = put (st .num) (S .head i) ((st .num (S .tail i) + S .up i) - S .down i);
+        last = put (st .last) (S .head i) (suc i);
+        kept = raises S k i (st .num) (st .last) (st .kept) (there, enough) gain;
+      }
     ]
   ]
 ]
@@ -65,21 +65,21 @@ unfitted S num zero = inr (λ f l. absurd (omega arith))
 unfitted S num (suc i) = elim (unfitted S num i) [
   | inl bad ↦ inl bad
   | inr all ↦
-    let more : (Open S i → Fitted S num i) → (f : ℕ) → f < suc i → Open S f → Fitted S num f
-    = λ here f l o. elim (cases-eq f i) [
-      | inl same ↦ subst (λ g. Fitted S num g) (sym same) (here (subst (λ g. Open S g) same o))
-      | inr before ↦ all f (omega arith) o
-    ] in
-    elim (cases-lt (num (S .head i) + S .down i) (num (S .tail i) + S .up i)) [
-    | inr fitted ↦ inr (more (λ o. fitted))
-    | inl gain ↦ elim (cases-lt i (S .steps)) [
-      | inr past ↦ inr (more (λ o. absurd (omega (arith, o .0))))
-      | inl there ↦ elim (cases-lt (S .room i) (S .least)) [
-        | inl small ↦ inr (more (λ o. absurd (omega (arith, o .1))))
-        | inr enough ↦ inl (i, (there, enough), gain)
+      let more : (Open S i → Fitted S num i) → (f : ℕ) → f < suc i → Open S f → Fitted S num f
+      = λ here f l o. elim (cases-eq f i) [
+        | inl same ↦ subst (λ g. Fitted S num g) (sym same) (here (subst (λ g. Open S g) same o))
+        | inr before ↦ all f (omega arith) o
+      ] in
+      elim (cases-lt (num (S .head i) + S .down i) (num (S .tail i) + S .up i)) [
+        | inr fitted ↦ inr (more (λ o. fitted))
+        | inl gain ↦ elim (cases-lt i (S .steps)) [
+          | inr past ↦ inr (more (λ o. absurd (omega (arith, o .0))))
+          | inl there ↦ elim (cases-lt (S .room i) (S .least)) [
+            | inl small ↦ inr (more (λ o. absurd (omega (arith, o .1))))
+            | inr enough ↦ inl (i, (there, enough), gain)
+          ]
+        ]
       ]
-    ]
-    ]
 ]
 
 -- the search's answer
@@ -92,11 +92,11 @@ answer S there =
     let n = S .nodes in
     let st = round S (suc n) (S .steps) (begun S n) in
     elim (unfitted S (st .num) (S .steps)) [
-    | inr all ↦ fits (suc n) (S .steps) (st .num) (st .last) (st .kept) (λ f o. all f (o .0) o)
-    | inl bad ↦
-      let f = bad .0 in
-      let late : suc n ≤ st .kept .when (S .tail f)
-      = elim (st .kept .passed f (bad .1) (bad .1 .0)) [ inl fitted ↦ absurd (omega (arith, bad .2)) | inr late ↦ omega arith ] in
-      let ring = late-ring S there (suc n) (S .steps) (st .num) (st .last) (st .kept) (S .tail f) (there f (bad .1 .0)) (omega arith) in
-      rings (ring .0) (ring .1) (ring .2) (ring .3)
+      | inr all ↦ fits (suc n) (S .steps) (st .num) (st .last) (st .kept) (λ f o. all f (o .0) o)
+      | inl bad ↦
+          let f = bad .0 in
+          let late : suc n ≤ st .kept .when (S .tail f)
+          = elim (st .kept .passed f (bad .1) (bad .1 .0)) [ inl fitted ↦ absurd (omega (arith, bad .2)) | inr late ↦ omega arith ] in
+          let ring = late-ring S there (suc n) (S .steps) (st .num) (st .last) (st .kept) (S .tail f) (there f (bad .1 .0)) (omega arith) in
+          rings (ring .0) (ring .1) (ring .2) (ring .3)
     ]

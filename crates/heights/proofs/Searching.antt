@@ -88,16 +88,16 @@ module _ (S : Steps) (k i : ℕ) (num last : ℕ → ℕ) (at : Searched S k i n
         let wv = put-same (at .when) v k v refl in
         let rv = put-same (at .rank) v (suc (at .rank u)) v refl in
         elim (cases-eq u v) [
-        | inl loop ↦
-          let nu = put-same num v x u loop in
-          let wu = put-same (at .when) v k u loop in
-          let same = ap num loop in
-          record { there = o; ends = refl; rise = omega arith; falls = λ e. absurd (omega arith); soon = omega arith }
-        | inr other ↦
-          let nu = put-other num v x u other in
-          let wu = put-other (at .when) v k u other in
-          let ru = put-other (at .rank) v (suc (at .rank u)) u other in
-          record { there = o; ends = refl; rise = omega arith; falls = λ e. omega arith; soon = omega (arith, fresh) }
+          | inl loop ↦
+              let nu = put-same num v x u loop in
+              let wu = put-same (at .when) v k u loop in
+              let same = ap num loop in
+              record { there = o; ends = refl; rise = omega arith; falls = λ e. absurd (omega arith); soon = omega arith }
+          | inr other ↦
+              let nu = put-other num v x u other in
+              let wu = put-other (at .when) v k u other in
+              let ru = put-other (at .rank) v (suc (at .rank u)) u other in
+              record { there = o; ends = refl; rise = omega arith; falls = λ e. omega arith; soon = omega (arith, fresh) }
         ]
 
     link-old : (w f : ℕ) → w ≢ v → Link S num (at .when) (at .rank) w f → Link S num′ when′ rank′ w f
@@ -109,27 +109,27 @@ module _ (S : Steps) (k i : ℕ) (num last : ℕ → ℕ) (at : Searched S k i n
         let rise = old .rise in
         let soon = old .soon in
         elim (cases-eq t v) [
-        | inl raised ↦
-          let nt = put-same num v x t raised in
-          let was = ap num raised in
-          record {
-            there = old .there;
-            ends = old .ends;
-            rise = omega (arith, rises t);
-            falls = λ e. absurd (omega arith);
-            soon = omega (arith, later t);
-          }
-        | inr other ↦
-          let nt = put-other num v x t other in
-          let wt = put-other (at .when) v k t other in
-          let rt = put-other (at .rank) v (suc (at .rank u)) t other in
-          record {
-            there = old .there;
-            ends = old .ends;
-            rise = omega arith;
-            falls = λ e. omega (arith, old .falls (omega arith));
-            soon = omega arith;
-          }
+          | inl raised ↦
+              let nt = put-same num v x t raised in
+              let was = ap num raised in
+              record {
+                there = old .there;
+                ends = old .ends;
+                rise = omega (arith, rises t);
+                falls = λ e. absurd (omega arith);
+                soon = omega (arith, later t);
+              }
+          | inr other ↦
+              let nt = put-other num v x t other in
+              let wt = put-other (at .when) v k t other in
+              let rt = put-other (at .rank) v (suc (at .rank u)) t other in
+              record {
+                there = old .there;
+                ends = old .ends;
+                rise = omega arith;
+                falls = λ e. omega (arith, old .falls (omega arith));
+                soon = omega arith;
+              }
         ]
 
     -- a fitted step stays so unless its tail was raised
@@ -144,13 +144,13 @@ module _ (S : Steps) (k i : ℕ) (num last : ℕ → ℕ) (at : Searched S k i n
           root = λ w e. elim (cases-eq w v) [
             | inl here ↦ absurd (omega (arith, put-same last v (suc i) w here))
             | inr ne ↦
-              let old = at .root w (sym (put-other last v (suc i) w ne) ∙ e) in
-              (put-other num v x w ne ∙ old .0, put-other (at .when) v k w ne ∙ old .1)
+                let old = at .root w (sym (put-other last v (suc i) w ne) ∙ e) in
+                (put-other num v x w ne ∙ old .0, put-other (at .when) v k w ne ∙ old .1)
           ];
           link = λ w f e. elim (cases-eq w v) [
             | inl here ↦
-              let which : i ≡ f = omega (arith, put-same last v (suc i) w here) in
-              subst (λ y. Link S num′ when′ rank′ y f) (sym here) (subst (λ g. Link S num′ when′ rank′ v g) which link-new)
+                let which : i ≡ f = omega (arith, put-same last v (suc i) w here) in
+                subst (λ y. Link S num′ when′ rank′ y f) (sym here) (subst (λ g. Link S num′ when′ rank′ v g) which link-new)
             | inr ne ↦ link-old w f ne (at .link w f (sym (put-other last v (suc i) w ne) ∙ e))
           ];
           recent = λ w. elim (cases-eq w v) [
@@ -161,7 +161,7 @@ module _ (S : Steps) (k i : ℕ) (num last : ℕ → ℕ) (at : Searched S k i n
             | inl raised ↦ inr (put-same (at .when) v k (S .tail f) raised)
             | inr ne ↦ elim (cases-eq f i) [
               | inl here ↦ inl
-                (subst (λ g. Fitted S num′ g) (sym here) (let nu = put-other num v x u (subst (λ g. S .tail g ≢ v) here ne) in omega (arith, put-same num v x v refl)))
+                  (subst (λ g. Fitted S num′ g) (sym here) (let nu = put-other num v x u (subst (λ g. S .tail g ≢ v) here ne) in omega (arith, put-same num v x v refl)))
               | inr before ↦ elim (at .passed f p (omega arith)) [
                 | inl fitted ↦ inl (still f ne fitted)
                 | inr late ↦ inr (put-other (at .when) v k (S .tail f) ne ∙ late)

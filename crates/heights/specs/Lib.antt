@@ -2,3 +2,4 @@ pub mod Network
 pub mod Residual
 pub mod Search
 pub mod Promise
+pub mod Worked

@@ -15,7 +15,7 @@ left-and-struck : (d : Day) (s place : ℕ → ℕ) (v : ℕ) → Set-off d s �
 left-and-struck d s place v set =
     sym (span-add (λ e. pick (eqb (place e) v) (left-by d s e) 0) (λ e. pick (eqb (place e) v) (s e) 0) (d .invoices))
     ∙ span-ext (λ e. pick (eqb (place e) v) (left-by d s e) 0 + pick (eqb (place e) v) (s e) 0) (λ e. pick (eqb (place e) v) (d .amount e) 0) (d .invoices)
-        (λ e l. by (eqb (place e) v) (d .amount e) (s e) (set .within e l))
+    (λ e l. by (eqb (place e) v) (d .amount e) (s e) (set .within e l))
   where
     by : (b : Bool) (a x : ℕ) → x ≤ a → pick b (a - x) 0 + pick b x 0 ≡ pick b a 0
     by true a x h = omega arith

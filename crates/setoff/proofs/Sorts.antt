@@ -44,18 +44,18 @@ module _ (d : Day) (sort : ℕ → Bool) (split : Split d sort) (q s : ℕ → �
   one-sort : (v : ℕ) →
       ((e : ℕ) → e < d .invoices → At-firm d v e → spliced sort q s e ≡ q e) ⊎ ((e : ℕ) → e < d .invoices → At-firm d v e → spliced sort q s e ≡ s e)
   one-sort v = elim (some-below (λ e. sort e && (eqb (d .from e) v || eqb (d .to e) v)) (d .invoices)) [
-    | inl (e , there , test) ↦
-      let parts = and-parts (sort e) (eqb (d .from e) v || eqb (d .to e) v) test in
-      inl
-      (λ f l at. elim (cases-bool (sort f)) [
-        | inl first ↦ ap (λ b. pick b (q f) (s f)) first
-        | inr second ↦ absurd (strangers-apart d e f v (split e f there l (parts .0) second) (at-by-test d v e (parts .1)) at)
-      ])
+    | inl (e, there, test) ↦
+        let parts = and-parts (sort e) (eqb (d .from e) v || eqb (d .to e) v) test in
+        inl
+        (λ f l at. elim (cases-bool (sort f)) [
+          | inl first ↦ ap (λ b. pick b (q f) (s f)) first
+          | inr second ↦ absurd (strangers-apart d e f v (split e f there l (parts .0) second) (at-by-test d v e (parts .1)) at)
+        ])
     | inr none ↦ inr
-      (λ f l at. elim (and-cases (sort f) (eqb (d .from f) v || eqb (d .to f) v) (none f l)) [
-        | inl second ↦ ap (λ b. pick b (q f) (s f)) second
-        | inr away ↦ absurd (not-by-test d v f away at)
-      ])
+        (λ f l at. elim (and-cases (sort f) (eqb (d .from f) v || eqb (d .to f) v) (none f l)) [
+          | inl second ↦ ap (λ b. pick b (q f) (s f)) second
+          | inr away ↦ absurd (not-by-test d v f away at)
+        ])
   ]
 
   -- where r is x at firm v, so is what it is let off there
@@ -112,10 +112,11 @@ first-sort d s sort greatest split q set =
 -- and the second, which is the first of the opposite sorting
 pub apart : Apart
 unfolding Apart
-apart d s sort greatest split q set =
-    (first-sort d s sort greatest split q set,
-    first-sort d s (λ e. not (sort e)) greatest
-        (λ e f l m p r.
-            let far = split f e m l (not-false (sort f) r) (not-true (sort e) p) in
-            (λ x. far .0 (sym x), λ x. far .2 (sym x), λ x. far .1 (sym x), λ x. far .3 (sym x)))
-        q set)
+apart d s sort greatest split q set = (
+  first-sort d s sort greatest split q set,
+  first-sort d s (λ e. not (sort e)) greatest
+      (λ e f l m p r.
+      let far = split f e m l (not-false (sort f) r) (not-true (sort e) p) in
+      (λ x. far .0 (sym x), λ x. far .2 (sym x), λ x. far .1 (sym x), λ x. far .3 (sym x)))
+      q set,
+)

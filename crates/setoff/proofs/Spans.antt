@@ -71,8 +71,8 @@ span-tight f g (suc k) h all e l =
     let below = span-le f g k (λ i m. h i (omega arith)) in
     let here = h k (omega arith) in
     elim (cases-eq e k) [
-    | inl same ↦ let a = ap f same in let b = ap g same in omega arith
-    | inr other ↦ span-tight f g k (λ i m. h i (omega arith)) (omega arith) e (omega arith)
+      | inl same ↦ let a = ap f same in let b = ap g same in omega arith
+      | inr other ↦ span-tight f g k (λ i m. h i (omega arith)) (omega arith) e (omega arith)
     ]
 
 -- two rows that differ at one place only
@@ -81,14 +81,14 @@ unfolding span
 span-differ f g zero i l h = omega arith
 span-differ f g (suc k) i l h = elim (cases-eq i k) [
   | inl same ↦
-    let a = ap f same in
-    let b = ap g same in
-    let rest = span-ext f g k (λ e m. h e (omega arith) (omega arith)) in
-    omega arith
+      let a = ap f same in
+      let b = ap g same in
+      let rest = span-ext f g k (λ e m. h e (omega arith) (omega arith)) in
+      omega arith
   | inr other ↦
-    let here = h k (omega arith) (λ e. other (sym e)) in
-    let ih = span-differ f g k i (omega arith) (λ e m ne. h e (omega arith) ne) in
-    omega arith
+      let here = h k (omega arith) (λ e. other (sym e)) in
+      let ih = span-differ f g k i (omega arith) (λ e m ne. h e (omega arith) ne) in
+      omega arith
 ]
 
 -- one number alone

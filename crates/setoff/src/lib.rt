@@ -1,4 +1,5 @@
 // Set-offs over a day's invoices: what each firm is let off and lets off, the total, and whether all firms are even.
 mod invoices;
+mod theorems;
 
 pub use invoices::Invoices;
