@@ -7,3 +7,4 @@ pub mod Pushing
 pub mod Existence
 pub mod Days
 pub mod Examples
+pub mod Counted

@@ -3,3 +3,4 @@ pub mod Residual
 pub mod Search
 pub mod Promise
 pub mod Worked
+pub mod Rows

@@ -1,0 +1,47 @@
+// Whether heights fit what is struck out. Where they do and every firm is even, nobody could strike out more.
+ghost use mathlib.Core.Bool.{true};
+ghost use mathlib.Core.Path.{_≡_};
+ghost use Prim.Native.Nat.{_+_, _≤_, _<_};
+ghost use Rattle.std.specs.Orderings.{Decides};
+ghost use Rattle.std.specs.Vec.{made};
+ghost use Rattle.day.specs.Bills.{reads, Set-off, total, Greatest, bound};
+ghost use Rattle.setoff.specs.Rows.{day-in};
+ghost use Rattle.heights.specs.Promise.{Fits};
+ghost use Rattle.heights.specs.Rows.{Low, Answers};
+use crate::faults::Fault;
+use crate::faults::check;
+use setoff::Struck;
+
+// Whether an invoice leads up by one at least where something is left of it, and by one at most where something is struck out.
+fn fits_at(amount: u64, cents: u64, from: u16, to: u16) -> bool
+    ensures { λ r. ⌜ Decides r ((cents < amount → from + 1 ≤ to) × (0 < cents → to ≤ from + 1)) ⌝ }
+{
+    (cents >= amount || from < to) && (cents == 0 || u32::from(to) <= u32::from(from) + 1)
+}
+
+// Whether heights that are low fit at each invoice.
+fn fits_each(struck: Struck, heights: &[u16]) -> bool
+    requires { ⌜ Low (struck .invoices .firms) (now heights) ⌝ }
+    ensures { λ r. ⌜ Decides r (Fits (day-in (struck .entry .invoices)) (reads (now (struck .entry .cents))) (reads (now (heights .entry)))) ⌝ }
+{
+    let invoices = struck.invoices;
+    for e in 0..invoices.from.len() {
+        let from = heights[invoices.from[e] as usize];
+        let to = heights[invoices.to[e] as usize];
+        if !fits_at(invoices.amount[e], struck.cents[e], from, to) {
+            return false;
+        }
+    }
+    true
+}
+
+// Whether heights, one for each firm and none above the number of firms, fit what is struck out.
+pub fn fit(struck: Struck, heights: &[u16]) -> Result<bool, Fault>
+    ensures answer { λ r. ⌜ Answers (struck .entry .invoices .firms) (now (heights .entry)) (λ b. Decides b (Fits (day-in (struck .entry .invoices)) (reads (now (struck .entry .cents))) (reads (now (heights .entry))))) r ⌝ }
+    ensures meets { λ r. ⌜ made r (λ b. Set-off (day-in (struck .entry .invoices)) (reads (now (struck .entry .cents))) → Decides b (total (day-in (struck .entry .invoices)) (reads (now (struck .entry .cents))) ≡ bound (day-in (struck .entry .invoices)) (reads (now (heights .entry))))) ⌝ }
+    ensures greatest { λ r. ⌜ made r (λ b. b ≡ true → Set-off (day-in (struck .entry .invoices)) (reads (now (struck .entry .cents))) → Greatest (day-in (struck .entry .invoices)) (reads (now (struck .entry .cents)))) ⌝ }
+{
+    let invoices = struck.invoices;
+    check(invoices.firms, heights)?;
+    Ok(fits_each(struck, heights))
+}
