@@ -4,3 +4,4 @@ pub mod Search
 pub mod Promise
 pub mod Worked
 pub mod Rows
+pub mod Told

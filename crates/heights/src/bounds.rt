@@ -1,10 +1,10 @@
 // The bound of heights: no set-off is above it.
 ghost use mathlib.Core.Path.{_≡_};
-ghost use Prim.Native.Nat.{ℕ, _+_, _-_, _^_, _≤_, _<_};
-ghost use Rattle.std.specs.Vec.{made};
-ghost use Rattle.day.specs.Bills.{reads, Set-off, total, bound};
+ghost use Prim.Native.Nat.{_+_, _-_};
+ghost use Rattle.day.specs.Bills.{reads};
 ghost use Rattle.setoff.specs.Rows.{day-in};
 ghost use Rattle.heights.specs.Rows.{Low, Answers};
+ghost use Rattle.heights.specs.Told.{Bounds};
 use crate::faults::Fault;
 use crate::faults::check;
 use setoff::Invoices;
@@ -19,8 +19,7 @@ fn times(from: u16, to: u16) -> u64
 // Adds up the invoices by heights that are low. At most 4,096 invoices of 10^12 cents, 513 times each, are below 2^63.
 fn add_up(invoices: Invoices, heights: &[u16]) -> u64
     requires { ⌜ Low (invoices .firms) (now heights) ⌝ }
-    ensures sum { λ r. ⌜ r ≡ bound (day-in (invoices .entry)) (reads (now (heights .entry))) ⌝ }
-    ensures small { λ r. ⌜ r < 2 ^ 63 ⌝ }
+    ensures { λ r. ⌜ Bounds (day-in (invoices .entry)) (reads (now (heights .entry))) r ⌝ }
 {
     let mut sum = 0;
     for e in 0..invoices.from.len() {
@@ -33,9 +32,7 @@ fn add_up(invoices: Invoices, heights: &[u16]) -> u64
 
 // The bound of one height for each firm, none of them above the number of firms.
 pub fn bound(invoices: Invoices, heights: &[u16]) -> Result<u64, Fault>
-    ensures answer { λ r. ⌜ Answers (invoices .entry .firms) (now (heights .entry)) (λ b. b ≡ bound (day-in (invoices .entry)) (reads (now (heights .entry)))) r ⌝ }
-    ensures above { λ r. ⌜ made r (λ b. (s : ℕ → ℕ) → Set-off (day-in (invoices .entry)) s → total (day-in (invoices .entry)) s ≤ b) ⌝ }
-    ensures small { λ r. ⌜ made r (λ b. b < 2 ^ 63) ⌝ }
+    ensures { λ r. ⌜ Answers (invoices .entry .firms) (now (heights .entry)) (Bounds (day-in (invoices .entry)) (reads (now (heights .entry)))) r ⌝ }
 {
     check(invoices.firms, heights)?;
     Ok(add_up(invoices, heights))

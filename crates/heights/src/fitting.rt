@@ -1,13 +1,10 @@
 // Whether heights fit what is struck out. Where they do and every firm is even, nobody could strike out more.
-ghost use mathlib.Core.Bool.{true};
-ghost use mathlib.Core.Path.{_≡_};
 ghost use Prim.Native.Nat.{_+_, _≤_, _<_};
 ghost use Rattle.std.specs.Orderings.{Decides};
-ghost use Rattle.std.specs.Vec.{made};
-ghost use Rattle.day.specs.Bills.{reads, Set-off, total, Greatest, bound};
+ghost use Rattle.day.specs.Bills.{reads};
 ghost use Rattle.setoff.specs.Rows.{day-in};
-ghost use Rattle.heights.specs.Promise.{Fits};
 ghost use Rattle.heights.specs.Rows.{Low, Answers};
+ghost use Rattle.heights.specs.Told.{Judges};
 use crate::faults::Fault;
 use crate::faults::check;
 use setoff::Struck;
@@ -22,7 +19,7 @@ fn fits_at(amount: u64, cents: u64, from: u16, to: u16) -> bool
 // Whether heights that are low fit at each invoice.
 fn fits_each(struck: Struck, heights: &[u16]) -> bool
     requires { ⌜ Low (struck .invoices .firms) (now heights) ⌝ }
-    ensures { λ r. ⌜ Decides r (Fits (day-in (struck .entry .invoices)) (reads (now (struck .entry .cents))) (reads (now (heights .entry)))) ⌝ }
+    ensures { λ r. ⌜ Judges (day-in (struck .entry .invoices)) (reads (now (struck .entry .cents))) (reads (now (heights .entry))) r ⌝ }
 {
     let invoices = struck.invoices;
     for e in 0..invoices.from.len() {
@@ -37,9 +34,7 @@ fn fits_each(struck: Struck, heights: &[u16]) -> bool
 
 // Whether heights, one for each firm and none above the number of firms, fit what is struck out.
 pub fn fit(struck: Struck, heights: &[u16]) -> Result<bool, Fault>
-    ensures answer { λ r. ⌜ Answers (struck .entry .invoices .firms) (now (heights .entry)) (λ b. Decides b (Fits (day-in (struck .entry .invoices)) (reads (now (struck .entry .cents))) (reads (now (heights .entry))))) r ⌝ }
-    ensures meets { λ r. ⌜ made r (λ b. Set-off (day-in (struck .entry .invoices)) (reads (now (struck .entry .cents))) → Decides b (total (day-in (struck .entry .invoices)) (reads (now (struck .entry .cents))) ≡ bound (day-in (struck .entry .invoices)) (reads (now (heights .entry))))) ⌝ }
-    ensures greatest { λ r. ⌜ made r (λ b. b ≡ true → Set-off (day-in (struck .entry .invoices)) (reads (now (struck .entry .cents))) → Greatest (day-in (struck .entry .invoices)) (reads (now (struck .entry .cents)))) ⌝ }
+    ensures { λ r. ⌜ Answers (struck .entry .invoices .firms) (now (heights .entry)) (Judges (day-in (struck .entry .invoices)) (reads (now (struck .entry .cents))) (reads (now (heights .entry)))) r ⌝ }
 {
     let invoices = struck.invoices;
     check(invoices.firms, heights)?;

@@ -6,7 +6,7 @@ use lib.ListN.{length, getD}
 use Rattle.day.specs.Bills.{reads, span}
 use Rattle.setoff.specs.Rows.{day-in}
 use Rattle.setoff.proofs.Spans.{span-zero, span-more}
-use Rattle.heights.proofs.Counted.{counted, bound-is, counted-small}
+use Rattle.heights.proofs.Counted.{counted, counted-small, bounds}
 use Rattle.heights.proofs.bounds.add_up.Needs as need
 
 pub loop-e-holds : need.loop-e-holds
@@ -46,9 +46,7 @@ loop-e-again c =
 
 pub returns : need.returns
 returns c =
+    let d = day-in (c .args .invoices) in
+    let h = reads (c .args .heights .now) in
     let all : c .loop-e .e ≡ length (c .args .invoices .from .now) = omega arith in
-    let f = counted (day-in (c .args .invoices)) (reads (c .args .heights .now)) in
-    record {
-      sum = c .loop-e .inv .0 ∙ ap (span f) all ∙ sym (bound-is (day-in (c .args .invoices)) (reads (c .args .heights .now)));
-      small = omega (arith, c .args .invoices .«few_invoices», c .loop-e .inv .1);
-    }
+    bounds d h (c .loop-e .sum) (c .loop-e .inv .0 ∙ ap (span (counted d h)) all) (omega (arith, c .args .invoices .«few_invoices», c .loop-e .inv .1))
