@@ -36,7 +36,7 @@ abbrev pub day-in : Invoices → Day
 day-in i = day-of (i .firms) (length (now (i .from))) (reads (now (i .from))) (reads (now (i .to))) (reads (now (i .amount))) (rows-in i .sound)
 
 -- sound rows, and a row of cents that is a set-off of their day
-pub record Sets-off (n : ℕ) (from to amount cents : List ℕ) : Type 0 where
+pub record Sound-set-off (n : ℕ) (from to amount cents : List ℕ) : Type 0 where
   pub rows : Sound-rows n from to amount
   pub cents-each : length cents ≡ length from
   pub set-off : Set-off (day-of n (length from) (reads from) (reads to) (reads amount) (rows .sound)) (reads cents)

@@ -1,4 +1,4 @@
-// What is struck out of each invoice of a day, in a lent row, and never more than the invoice is: so by its type.
+// What is struck out of each invoice of a day, within the invoice by its type.
 ghost use denote.Ref.{now};
 ghost use mathlib.Core.Path.{_≡_};
 ghost use Prim.Native.Nat.{ℕ, _≤_, _<_};
@@ -6,6 +6,7 @@ ghost use lib.ListN.{length};
 ghost use Rattle.day.specs.Bills.{reads};
 use crate::invoices::Invoices;
 
+// The invoices, and the cents that are struck out of each of them.
 #[derive(Clone, Copy)]
 pub struct Struck<'a> {
     pub invoices: Invoices<'a>,

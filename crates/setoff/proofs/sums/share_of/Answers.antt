@@ -1,0 +1,22 @@
+-- The sum grows where the firm stands at the invoice, and stays where another does.
+use mathlib.Core.Path.{sym}
+use native.Mathlib.Omega.{arith}
+use Rattle.day.specs.Bills.{reads}
+use Rattle.setoff.proofs.Portions.{share-none, share-same, share-other, share-fits}
+use Rattle.setoff.proofs.sums.share_of.Needs as need
+use Rattle.setoff.proofs.sums.share_of.Needs.{then-row-e, else-row-e}
+
+pub loop-e-holds : need.loop-e-holds
+loop-e-holds c = sym (share-none (reads (c .args .row .now)) (reads (c .args .struck .cents .now)) (c .args .firm))
+
+pub add-sum : need.add-sum
+add-sum c = omega (arith, share-fits (c .args .struck) (reads (c .args .row .now)) (c .args .firm) (c .loop-e .e) (omega arith))
+
+pub loop-e-again : need.loop-e-again
+loop-e-again c =
+    let row = reads (c .args .row .now) in
+    let cents = reads (c .args .struck .cents .now) in
+    elim (c .if-row-e .came) [
+      | then-row-e w ↦ omega (arith, w .sum-is, share-same row cents (c .args .firm) (c .loop-e .e) (w .if-row-e .taken))
+      | else-row-e w ↦ omega (arith, w .sum-is, share-other row cents (c .args .firm) (c .loop-e .e) (w .if-row-e .left))
+    ]

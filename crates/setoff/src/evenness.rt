@@ -1,0 +1,50 @@
+// Whether what is struck out leaves every firm even: it is let off as much as it lets others off.
+ghost use mathlib.Core.Path.{_≡_};
+ghost use Prim.Native.Nat.{ℕ, _≤_, _<_};
+ghost use lib.ListN.{length};
+ghost use Rattle.day.specs.Bills.{reads, let-off, lets-off};
+ghost use Rattle.setoff.specs.Rows.{day-in};
+ghost use Rattle.setoff.specs.Uneven.{First-apart, Evenness};
+use crate::struck::Struck;
+use day::MOST_FIRMS;
+
+// A place for each firm of the largest day.
+const PLACES: usize = MOST_FIRMS as usize;
+
+// Adds up, for each firm, what it gains by being let off and what it gives by letting others off.
+fn tally(struck: Struck, gains: &mut [u64], gives: &mut [u64])
+    requires room { ⌜ (struck .invoices .firms ≤ length (now gains)) × (struck .invoices .firms ≤ length (now gives)) ⌝ }
+    requires clear { ⌜ ((v : ℕ) → (reads (now gains) v ≡ 0) × (reads (now gives) v ≡ 0)) ⌝ }
+    ensures gains { λ _. ⌜ ((v : ℕ) → v < length (now (gains .exit)) → reads (now (gains .exit)) v ≡ let-off (day-in (struck .entry .invoices)) (reads (now (struck .entry .cents))) v) ⌝ }
+    ensures gives { λ _. ⌜ ((v : ℕ) → v < length (now (gives .exit)) → reads (now (gives .exit)) v ≡ lets-off (day-in (struck .entry .invoices)) (reads (now (struck .entry .cents))) v) ⌝ }
+{
+    for e in 0..struck.cents.len() {
+        let cents = struck.cents[e];
+        gains[struck.invoices.from[e] as usize] += cents;
+        gives[struck.invoices.to[e] as usize] += cents;
+    }
+}
+
+// The first of so many places at which two rows differ.
+fn first_apart(gains: &[u64], gives: &[u64], firms: u16) -> Option<u16>
+    requires { ⌜ (firms ≤ length (now gains)) × (firms ≤ length (now gives)) ⌝ }
+    ensures { λ r. ⌜ First-apart (reads (now (gains .entry))) (reads (now (gives .entry))) firms r ⌝ }
+{
+    for v in 0..firms {
+        if gains[v as usize] != gives[v as usize] {
+            return Some(v);
+        }
+    }
+    None
+}
+
+// The first firm that is not even, if there is one; where there is none, the cents are a set-off.
+pub fn first_uneven(struck: Struck) -> Option<u16>
+    ensures { λ r. ⌜ Evenness (day-in (struck .entry .invoices)) (reads (now (struck .entry .cents))) r ⌝ }
+{
+    let invoices = struck.invoices;
+    let mut gains = [0; PLACES];
+    let mut gives = [0; PLACES];
+    tally(struck, &mut gains, &mut gives);
+    first_apart(&gains, &gives, invoices.firms)
+}
