@@ -8,9 +8,12 @@ use denote.Ref.{now}
 use lib.Dec.{eqb}
 use lib.ListN.{length}
 use Rattle.day.specs.Bills.{pick, span, reads}
-use Rattle.setoff.specs.Shares.{share}
 use Rattle.setoff.specs.declared.struck.Struck.{Struck}
 use Rattle.setoff.proofs.Spans.{pick-same, pick-other, span-zero, span-more, span-bound}
+
+-- of the first k invoices, what is struck out of those at which firm v stands
+abbrev pub share : (firm cents : ℕ → ℕ) (v k : ℕ) → ℕ
+share firm cents v k = span (λ e. pick (eqb (firm e) v) (cents e) 0) k
 
 module _ (firm cents : ℕ → ℕ) (v : ℕ) where
   pub share-none : share firm cents v 0 ≡ 0
@@ -40,11 +43,6 @@ module _ (s : Struck) where
       let there : e < length (now (s .invoices .from)) = omega (arith, s .«cents_each») in
       omega (arith, s .within e there, s .invoices .«few_cents» e there)
 
-  fits-more : (sum k : ℕ) → sum ≤ k * 10 ^ 12 → k < length (now (s .cents)) → sum + reads (now (s .cents)) k < 2 ^ 64
-  fits-more sum k few h = omega (arith, few-struck k h, s .«cents_each», s .invoices .«few_invoices»)
-
   pub share-fits : (firm : ℕ → ℕ) (v k : ℕ) → k < length (now (s .cents)) → share firm (reads (now (s .cents))) v k + reads (now (s .cents)) k < 2 ^ 64
-  share-fits firm v k h = fits-more _ k (share-bound firm (reads (now (s .cents))) v (10 ^ 12) k (λ e l. few-struck e (omega arith))) h
-
-  pub total-fits : (k : ℕ) → k < length (now (s .cents)) → span (reads (now (s .cents))) k + reads (now (s .cents)) k < 2 ^ 64
-  total-fits k h = fits-more _ k (span-bound (reads (now (s .cents))) (10 ^ 12) k (λ e l. few-struck e (omega arith))) h
+  share-fits firm v k h =
+      omega (arith, share-bound firm (reads (now (s .cents))) v (10 ^ 12) k (λ e l. few-struck e (omega arith)), few-struck k h, s .«cents_each», s .invoices .«few_invoices»)

@@ -8,8 +8,7 @@ use lib.ListN.{length, set, replicate}
 use Rattle.std.proofs.shelf.Lists.{getD-set-same, getD-set-other, length-set}
 use Rattle.std.proofs.shelf.Tests.{cases-eq}
 use Rattle.day.specs.Bills.{reads}
-use Rattle.setoff.specs.Shares.{share}
-use Rattle.setoff.proofs.Portions.{share-none, share-same, share-other}
+use Rattle.setoff.proofs.Portions.{share, share-none, share-same, share-other}
 
 -- at each place, the share of its firm of the first k invoices
 abbrev pub Tallied : (firm cents : ℕ → ℕ) → ℕ → List ℕ → Type 0

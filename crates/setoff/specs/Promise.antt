@@ -17,11 +17,13 @@ is-owed d a v = span (λ e. pick (eqb (d .to e) v) (a e) 0) (d .invoices)
 abbrev pub left-by : Day → (ℕ → ℕ) → ℕ → ℕ
 left-by d s e = d .amount e - s e
 
--- nobody's position changes: what a firm owes in all, less what it is owed in all, is what it was
+-- what firm v owes in all, less what it is owed in all, is what it was
+abbrev pub Stays : Day → (ℕ → ℕ) → ℕ → Type 0
+Stays d s v = owes d (left-by d s) v + is-owed d (d .amount) v ≡ owes d (d .amount) v + is-owed d (left-by d s) v
+
+-- nobody's position changes
 unfoldable pub Position-kept : Type 0
-Position-kept =
-    (d : Day) (s : ℕ → ℕ) (v : ℕ) → Set-off d s → v < d .firms →
-    owes d (left-by d s) v + is-owed d (d .amount) v ≡ owes d (d .amount) v + is-owed d (left-by d s) v
+Position-kept = (d : Day) (s : ℕ → ℕ) (v : ℕ) → Set-off d s → v < d .firms → Stays d s v
 
 -- two invoices without a firm in common
 abbrev pub Strangers : Day → ℕ → ℕ → Type 0

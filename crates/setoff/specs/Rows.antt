@@ -4,7 +4,7 @@ use mathlib.Core.Path.{_≡_}
 use Prim.Native.Nat.{ℕ}
 use denote.Ref.{now}
 use lib.ListN.{length}
-use Rattle.day.specs.Bills.{Day, Sound, Set-off, day-of, reads}
+use Rattle.day.specs.Bills.{Day, Sound, day-of, reads}
 use Rattle.setoff.specs.declared.invoices.Invoices.{Invoices}
 
 -- rows with a place for each invoice, within the limits of a clearing day of n firms
@@ -34,9 +34,3 @@ rows-in i =
 -- the day that they are
 abbrev pub day-in : Invoices → Day
 day-in i = day-of (i .firms) (length (now (i .from))) (reads (now (i .from))) (reads (now (i .to))) (reads (now (i .amount))) (rows-in i .sound)
-
--- sound rows, and a row of cents that is a set-off of their day
-pub record Sound-set-off (n : ℕ) (from to amount cents : List ℕ) : Type 0 where
-  pub rows : Sound-rows n from to amount
-  pub cents-each : length cents ≡ length from
-  pub set-off : Set-off (day-of n (length from) (reads from) (reads to) (reads amount) (rows .sound)) (reads cents)

@@ -5,13 +5,14 @@ use Prim.Native.Nat.{ℕ, _<_}
 use Rattle.std.specs.declared.option.Option.{Option}
 use Rattle.std.specs.declared.option.Option.the-variants.{Some, None}
 use Rattle.day.specs.Bills.{Day, let-off, lets-off, Set-off}
+use Rattle.setoff.specs.Promise.{Stays}
 
--- the first of n places at which two rows of numbers differ, if there is one
-abbrev pub First-apart : (f g : ℕ → ℕ) → ℕ → Option ℕ → Type 0
-First-apart f g n None = (v : ℕ) → v < n → f v ≡ g v
-First-apart f g n (Some v) = (v < n) × (f v ≢ g v) × ((u : ℕ) → u < v → f u ≡ g u)
+-- the cents are a set-off, which keeps the position of each firm
+pub record Balanced (d : Day) (s : ℕ → ℕ) : Type 0 where
+  pub set-off : Set-off d s
+  pub kept : (v : ℕ) → v < d .firms → Stays d s v
 
--- none where the cents are a set-off, and else the first firm that is let off another sum than it lets off
+-- no firm is uneven, or else one is the first that is let off another sum than it lets off
 abbrev pub Evenness : Day → (ℕ → ℕ) → Option ℕ → Type 0
-Evenness d s None = Set-off d s
-Evenness d s (Some v) = First-apart (let-off d s) (lets-off d s) (d .firms) (Some v)
+Evenness d s None = Balanced d s
+Evenness d s (Some v) = (v < d .firms) × (let-off d s v ≢ lets-off d s v) × ((u : ℕ) → u < v → let-off d s u ≡ lets-off d s u)

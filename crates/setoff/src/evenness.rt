@@ -4,7 +4,7 @@ ghost use Prim.Native.Nat.{ℕ, _≤_, _<_};
 ghost use lib.ListN.{length};
 ghost use Rattle.day.specs.Bills.{reads, let-off, lets-off};
 ghost use Rattle.setoff.specs.Rows.{day-in};
-ghost use Rattle.setoff.specs.Uneven.{First-apart, Evenness};
+ghost use Rattle.setoff.specs.Uneven.{Evenness};
 use crate::struck::Struck;
 use day::MOST_FIRMS;
 
@@ -25,12 +25,15 @@ fn tally(struck: Struck, gains: &mut [u64], gives: &mut [u64])
     }
 }
 
-// The first of so many places at which two rows differ.
-fn first_apart(gains: &[u64], gives: &[u64], firms: u16) -> Option<u16>
-    requires { ⌜ (firms ≤ length (now gains)) × (firms ≤ length (now gives)) ⌝ }
-    ensures { λ r. ⌜ First-apart (reads (now (gains .entry))) (reads (now (gives .entry))) firms r ⌝ }
+// The first firm whose two sums differ.
+fn first_apart(struck: Struck, gains: &[u64], gives: &[u64]) -> Option<u16>
+    requires room { ⌜ (struck .invoices .firms ≤ length (now gains)) × (struck .invoices .firms ≤ length (now gives)) ⌝ }
+    requires gains { ⌜ ((v : ℕ) → v < length (now gains) → reads (now gains) v ≡ let-off (day-in (struck .invoices)) (reads (now (struck .cents))) v) ⌝ }
+    requires gives { ⌜ ((v : ℕ) → v < length (now gives) → reads (now gives) v ≡ lets-off (day-in (struck .invoices)) (reads (now (struck .cents))) v) ⌝ }
+    ensures { λ r. ⌜ Evenness (day-in (struck .entry .invoices)) (reads (now (struck .entry .cents))) r ⌝ }
 {
-    for v in 0..firms {
+    let invoices = struck.invoices;
+    for v in 0..invoices.firms {
         if gains[v as usize] != gives[v as usize] {
             return Some(v);
         }
@@ -42,9 +45,8 @@ fn first_apart(gains: &[u64], gives: &[u64], firms: u16) -> Option<u16>
 pub fn first_uneven(struck: Struck) -> Option<u16>
     ensures { λ r. ⌜ Evenness (day-in (struck .entry .invoices)) (reads (now (struck .entry .cents))) r ⌝ }
 {
-    let invoices = struck.invoices;
     let mut gains = [0; PLACES];
     let mut gives = [0; PLACES];
     tally(struck, &mut gains, &mut gives);
-    first_apart(&gains, &gives, invoices.firms)
+    first_apart(struck, &gains, &gives)
 }

@@ -2,7 +2,6 @@
 mod evenness;
 mod invoices;
 mod misfits;
-mod set_offs;
 mod soundness;
 mod struck;
 mod sums;
@@ -15,7 +14,6 @@ pub use misfits::MisfitDebug;
 pub use misfits::MisfitEq;
 pub use misfits::MisfitPartialEq;
 pub use misfits::within;
-pub use set_offs::is_set_off;
 pub use soundness::are_sound;
 pub use struck::Struck;
 pub use sums::let_off;

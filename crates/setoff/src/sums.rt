@@ -1,15 +1,16 @@
 // Sums over a day's invoices: what a firm is let off, what it lets others off, and what is struck out in all.
 ghost use mathlib.Core.Path.{_≡_};
+ghost use Prim.Native.Nat.{ℕ, _^_, _≤_, _<_};
 ghost use lib.ListN.{length};
-ghost use Rattle.day.specs.Bills.{reads, let-off, lets-off, total};
+ghost use Rattle.day.specs.Bills.{reads, span, let-off, lets-off, total};
 ghost use Rattle.setoff.specs.Rows.{day-in};
-ghost use Rattle.setoff.specs.Shares.{share};
 use crate::struck::Struck;
 
-// What is struck out of the invoices at which the row has this firm.
+// What is struck out of the invoices at which the firm stands in a row: in that of who owes, or in that of who is owed.
 fn share_of(struck: Struck, row: &[u16], firm: u16) -> u64
     requires { ⌜ length (now row) ≡ length (now (struck .cents)) ⌝ }
-    ensures { λ r. ⌜ r ≡ share (reads (now (row .entry))) (reads (now (struck .entry .cents))) firm (length (now (struck .entry .cents))) ⌝ }
+    ensures owing { λ r. ⌜ (now (row .entry) ≡ now (struck .entry .invoices .from) → r ≡ let-off (day-in (struck .entry .invoices)) (reads (now (struck .entry .cents))) firm) ⌝ }
+    ensures owed { λ r. ⌜ (now (row .entry) ≡ now (struck .entry .invoices .to) → r ≡ lets-off (day-in (struck .entry .invoices)) (reads (now (struck .entry .cents))) firm) ⌝ }
 {
     let mut sum = 0;
     for e in 0..row.len() {
@@ -34,13 +35,22 @@ pub fn lets_off(struck: Struck, firm: u16) -> u64
     share_of(struck, struck.invoices.to, firm)
 }
 
+// The sum of a row of few numbers, none of them large.
+fn sum_of(row: &[u64]) -> u64
+    requires few { ⌜ length (now row) ≤ 4096 ⌝ }
+    requires small { ⌜ ((e : ℕ) → e < length (now row) → reads (now row) e ≤ 10 ^ 12) ⌝ }
+    ensures { λ r. ⌜ r ≡ span (reads (now (row .entry))) (length (now (row .entry))) ⌝ }
+{
+    let mut sum = 0;
+    for cents in row {
+        sum += *cents;
+    }
+    sum
+}
+
 // What is struck out in all.
 pub fn total(struck: Struck) -> u64
     ensures { λ r. ⌜ r ≡ total (day-in (struck .entry .invoices)) (reads (now (struck .entry .cents))) ⌝ }
 {
-    let mut sum = 0;
-    for cents in struck.cents {
-        sum += *cents;
-    }
-    sum
+    sum_of(struck.cents)
 }

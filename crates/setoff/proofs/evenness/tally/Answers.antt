@@ -3,8 +3,7 @@ use mathlib.Core.Path.{_≡_, _∙_, ap}
 use native.Mathlib.Omega.{arith}
 use lib.ListN.{length}
 use Rattle.day.specs.Bills.{reads, let-off, lets-off}
-use Rattle.setoff.specs.Shares.{share}
-use Rattle.setoff.proofs.Portions.{share-fits}
+use Rattle.setoff.proofs.Portions.{share, share-fits}
 use Rattle.setoff.proofs.Tallies.{tallied-none, tallied-more}
 use Rattle.setoff.proofs.evenness.tally.Needs as need
 

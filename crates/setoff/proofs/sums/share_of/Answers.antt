@@ -1,8 +1,11 @@
 -- The sum grows where the firm stands at the invoice, and stays where another does.
-use mathlib.Core.Path.{sym}
+use mathlib.Core.List.{List}
+use mathlib.Core.Path.{_≡_, _∙_, sym, ap}
+use Prim.Native.Nat.{ℕ}
 use native.Mathlib.Omega.{arith}
-use Rattle.day.specs.Bills.{reads}
-use Rattle.setoff.proofs.Portions.{share-none, share-same, share-other, share-fits}
+use lib.ListN.{length}
+use Rattle.day.specs.Bills.{reads, let-off, lets-off}
+use Rattle.setoff.proofs.Portions.{share, share-none, share-same, share-other, share-fits}
 use Rattle.setoff.proofs.sums.share_of.Needs as need
 use Rattle.setoff.proofs.sums.share_of.Needs.{then-row-e, else-row-e}
 
@@ -20,3 +23,13 @@ loop-e-again c =
       | then-row-e w ↦ omega (arith, w .sum-is, share-same row cents (c .args .firm) (c .loop-e .e) (w .if-row-e .taken))
       | else-row-e w ↦ omega (arith, w .sum-is, share-other row cents (c .args .firm) (c .loop-e .e) (w .if-row-e .left))
     ]
+
+pub returns : need.returns
+unfolding let-off lets-off
+returns c =
+    let s = c .args .struck in
+    let cents = reads (s .cents .now) in
+    let all : c .loop-e .e ≡ length (s .invoices .from .now) = omega (arith, s .«cents_each») in
+    let sum = c .loop-e .inv ∙ ap (share (reads (c .args .row .now)) cents (c .args .firm)) all in
+    let by = λ (row : List ℕ). share (reads row) cents (c .args .firm) (length (s .invoices .from .now)) in
+    record { owing = λ e. sum ∙ ap by e; owed = λ e. sum ∙ ap by e }

@@ -2,7 +2,7 @@
 use mathlib.Core.Path.{_≡_}
 use denote.Ref.{now}
 use Rattle.day.specs.Bills.{reads}
-use Rattle.setoff.specs.Shares.{share}
+use Rattle.setoff.proofs.Portions.{share}
 use Rattle.setoff.proofs.sums.share_of.Given as given
 
 abbrev pub Inv-loop-e : given.InvT-loop-e

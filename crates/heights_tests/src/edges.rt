@@ -1,0 +1,122 @@
+// The edges of each rule: which rows are sound, which cents can be struck out, which heights are taken.
+use crate::helpers::Case;
+use crate::helpers::look;
+use day::MOST_CENTS;
+use heights::Fault;
+use heights::FaultDebug;
+use heights::FaultPartialEq;
+use setoff::Misfit;
+use setoff::MisfitDebug;
+use setoff::MisfitPartialEq;
+use setoff::are_sound;
+use std::test::*;
+
+// The second of two invoices, on a day of so many firms.
+#[test]
+fn sound_invoices() -> Result<(), Fail> {
+    let cases = [
+        (2, 1, 0, 1, true),
+        (512, 511, 0, MOST_CENTS, true),
+        (512, 0, 511, MOST_CENTS, true),
+        (2, 2, 0, 1, false),
+        (2, 1, 2, 1, false),
+        (512, 512, 0, 1, false),
+        (2, 1, 1, 1, false),
+        (2, 1, 0, 0, false),
+        (2, 1, 0, MOST_CENTS + 1, false),
+        (1, 1, 0, 1, false),
+        (513, 1, 0, 1, false),
+    ];
+    for (firms, from, to, amount, sound) in cases {
+        check_eq(are_sound(firms, &[0, from], &[1, to], &[3, amount]), sound)?;
+    }
+    Ok(())
+}
+
+#[test]
+fn sound_sizes(rt: LibcRuntime) -> Result<(), Fail> {
+    for (firms, sound) in [(0, false), (1, true), (512, true), (513, false)] {
+        check_eq(are_sound(firms, &[], &[], &[]), sound)?;
+    }
+    check_eq(are_sound(2, &[0, 1], &[1], &[3, 3]), false)?;
+    check_eq(are_sound(2, &[0, 1], &[1, 0], &[3]), false)?;
+    check_eq(are_sound(2, &[0], &[1, 0], &[3, 3]), false)?;
+    let heap = rt.alloc();
+    for (invoices, sound) in [(4096, true), (4097, false)] {
+        let from = vec![in heap; 0u16; invoices]?;
+        let to = vec![in heap; 1u16; invoices]?;
+        let amount = vec![in heap; 1u64; invoices]?;
+        check_eq(are_sound(2, &from, &to, &amount), sound)?;
+    }
+    Ok(())
+}
+
+fn pair<'a>(cents: &'a [u64], heights: &'a [u16]) -> Case<'a> {
+    Case {
+        firms: 2,
+        from: &[0, 1],
+        to: &[1, 0],
+        amount: &[10, 7],
+        cents,
+        heights,
+    }
+}
+
+#[test]
+fn cents_within() -> Result<(), Fail> {
+    check_eq(look(pair(&[], &[0, 0]))?.cents, Err(Misfit::Length(0)))?;
+    check_eq(look(pair(&[11], &[0, 0]))?.cents, Err(Misfit::Length(1)))?;
+    check_eq(
+        look(pair(&[1, 1, 1], &[0, 0]))?.cents,
+        Err(Misfit::Length(3)),
+    )?;
+    check_eq(look(pair(&[10, 7], &[0, 0]))?.cents, Ok(()))?;
+    check_eq(look(pair(&[11, 7], &[0, 0]))?.cents, Err(Misfit::Above(0)))?;
+    check_eq(look(pair(&[10, 8], &[0, 0]))?.cents, Err(Misfit::Above(1)))?;
+    check_eq(look(pair(&[11, 8], &[0, 0]))?.cents, Err(Misfit::Above(0)))?;
+    check_eq(
+        look(pair(&[0, u64::MAX], &[0, 0]))?.cents,
+        Err(Misfit::Above(1)),
+    )
+}
+
+#[test]
+fn heights_low() -> Result<(), Fail> {
+    check_eq(look(pair(&[], &[]))?.bound, Err(Fault::Length(0)))?;
+    check_eq(look(pair(&[], &[3]))?.bound, Err(Fault::Length(1)))?;
+    check_eq(look(pair(&[], &[0, 0, 0]))?.bound, Err(Fault::Length(3)))?;
+    check_eq(look(pair(&[], &[0, 0]))?.bound, Ok(17))?;
+    check_eq(look(pair(&[], &[0, 1]))?.bound, Ok(14))?;
+    check_eq(look(pair(&[], &[2, 0]))?.bound, Ok(30))?;
+    check_eq(look(pair(&[], &[0, 2]))?.bound, Ok(21))?;
+    check_eq(look(pair(&[], &[3, 0]))?.bound, Err(Fault::Above(0)))?;
+    check_eq(look(pair(&[], &[0, 3]))?.bound, Err(Fault::Above(1)))?;
+    check_eq(
+        look(pair(&[], &[u16::MAX, u16::MAX]))?.bound,
+        Err(Fault::Above(0)),
+    )
+}
+
+// 4,096 invoices of 10^12 cents, each counted 513 times.
+#[test]
+fn largest_bound(rt: LibcRuntime) -> Result<(), Fail> {
+    let heap = rt.alloc();
+    let from = vec![in heap; 0u16; 4096]?;
+    let to = vec![in heap; 1u16; 4096]?;
+    let amount = vec![in heap; MOST_CENTS; 4096]?;
+    let cents = vec![in heap; MOST_CENTS; 4096]?;
+    let mut heights = vec![in heap; 512u16; 1]?;
+    for _ in 1..512 {
+        heights.push(0)?;
+    }
+    let looked = look(Case {
+        firms: 512,
+        from: &from,
+        to: &to,
+        amount: &amount,
+        cents: &cents,
+        heights: &heights,
+    })?;
+    check_eq(looked.cents, Ok(()))?;
+    check_eq(looked.bound, Ok(2_101_248_000_000_000_000))
+}
