@@ -1,5 +1,9 @@
-// The benchmark: how long it takes to read a day of 512 firms and 4,096 invoices that are all in memory.
+// The benchmark: how long it takes to read a day of 512 firms and 4,096 invoices that are all in memory, and to add it up.
 // It prints on standard error, since times differ from run to run, and fails only where the time is past all bounds.
+mod clock;
+mod sums;
+
+use clock::Shortest;
 use day::Invoice;
 use day::MOST_CENTS;
 use day::MOST_FIRMS;
@@ -8,12 +12,6 @@ use day::Room;
 use std::alloc::AllocError;
 use std::alloc::Global;
 use std::error::AnyError;
-use std::time::Instant;
-
-const RUNS: usize = 1000;
-
-// Reading has to take well under this, a millisecond.
-const LIMIT: u128 = 1_000_000;
 
 const AMPLE: Room = Room {
     invoices: MOST_INVOICES,
@@ -39,35 +37,24 @@ fn largest(heap: Global) -> Result<Vec<Invoice>, AllocError> {
     Ok(invoices)
 }
 
-// The shortest of many runs, in nanoseconds.
-fn shortest(rt: &LibcRuntime, file: &[u8]) -> Result<u128, AnyError> {
+fn main(rt: LibcRuntime) -> Result<(), AnyError> {
     let heap = rt.alloc();
+    let invoices = largest(heap)?;
+    let file = day::write(heap, MOST_FIRMS, &invoices)?;
     let mut from = vec![in heap; 0u16; MOST_INVOICES]?;
     let mut to = vec![in heap; 0u16; MOST_INVOICES]?;
     let mut amount = vec![in heap; 0u64; MOST_INVOICES]?;
-    let mut best = u128::MAX;
-    for _ in 0..RUNS {
-        let start = Instant::now(rt)?;
-        let answer = day::read(file, &mut from, &mut to, &mut amount, AMPLE);
-        let time = start.elapsed(rt)?.as_nanos();
+    let mut reading = Shortest::new();
+    for _ in 0..clock::RUNS {
+        let start = clock::start(&rt)?;
+        let answer = day::read(&file, &mut from, &mut to, &mut amount, AMPLE);
+        reading.stop(&rt, start)?;
         if answer.is_err() {
             return Err("the day was refused".into());
         }
-        best = best.min(time);
     }
-    Ok(best)
-}
-
-fn main(rt: LibcRuntime) -> Result<(), AnyError> {
-    let invoices = largest(rt.alloc())?;
-    let file = day::write(rt.alloc(), MOST_FIRMS, &invoices)?;
-    let best = shortest(&rt, &file)?;
-    eprintln!(
-        rt,
-        "read 512 firms, 4096 invoices: {best} ns, the shortest of {RUNS} runs"
-    )?;
-    if best >= LIMIT {
-        return Err("reading takes too long".into());
-    }
-    Ok(())
+    reading.tell(&rt, "read")?;
+    let nothing = vec![in heap; 0u64; MOST_INVOICES]?;
+    let heights = vec![in heap; 0u16; 512]?;
+    sums::time(&rt, &from, &to, &amount, &nothing, &heights)
 }
