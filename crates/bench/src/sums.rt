@@ -32,28 +32,33 @@ fn even(rt: &LibcRuntime, struck: Struck) -> Result<(), AnyError> {
     shortest.tell(rt, "even")
 }
 
-fn bound(rt: &LibcRuntime, invoices: Invoices, heights: &[u16]) -> Result<(), AnyError> {
+// With all heights 0 the bound is all that is owed.
+fn bound(rt: &LibcRuntime, all: Struck, heights: &[u16]) -> Result<(), AnyError> {
+    let owed = setoff::total(all);
     let mut shortest = Shortest::new();
     for _ in 0..clock::RUNS {
         let start = clock::start(rt)?;
-        let bound = heights::bound(invoices, heights);
+        let bound = heights::bound(all.invoices, heights);
         shortest.stop(rt, start)?;
-        if bound.is_err() {
+        let Ok(bound) = bound else {
             return Err("the heights are turned away".into());
+        };
+        if bound != owed {
+            return Err("the bound is another one".into());
         }
     }
     shortest.tell(rt, "bound")
 }
 
-fn fit(rt: &LibcRuntime, struck: Struck, heights: &[u16]) -> Result<(), AnyError> {
+fn fit(rt: &LibcRuntime, all: Struck, heights: &[u16]) -> Result<(), AnyError> {
     let mut shortest = Shortest::new();
     for _ in 0..clock::RUNS {
         let start = clock::start(rt)?;
-        let fit = heights::fit(struck, heights);
+        let fit = heights::fit(all, heights);
         shortest.stop(rt, start)?;
-        if fit.is_err() {
-            return Err("the heights are turned away".into());
-        }
+        let Ok(true) = fit else {
+            return Err("the heights don't fit".into());
+        };
     }
     shortest.tell(rt, "fit")
 }
@@ -91,13 +96,10 @@ pub(crate) fn time<'a>(
             cents: nothing,
         },
     )?;
-    bound(rt, invoices, heights)?;
-    fit(
-        rt,
-        Struck {
-            invoices,
-            cents: amount,
-        },
-        heights,
-    )
+    let all = Struck {
+        invoices,
+        cents: amount,
+    };
+    bound(rt, all, heights)?;
+    fit(rt, all, heights)
 }
