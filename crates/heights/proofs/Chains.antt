@@ -1,12 +1,12 @@
 -- Last steps followed back: a closed chain gains, a long one closes, and without rings numbers are low and least. Assumes nothing.
 use mathlib.Core.Logic.{_⊎_, _≢_, inl, inr}
-use mathlib.Core.Path.{_≡_, _∙_, refl, sym, ap, subst}
-use Prim.Native.Nat.{ℕ, zero, suc, _+_, _*_, _-_, _≤_, _<_}
+use mathlib.Core.Path.{_≡_, _∙_, sym, ap}
+use Prim.Native.Nat.{ℕ, zero, suc, _+_, _-_, _≤_, _<_}
 use native.Mathlib.Omega.{arith}
 use Rattle.std.proofs.shelf.Tests.{cases-eq, cases-lt}
 use Rattle.day.specs.Bills.{span}
 use Rattle.setoff.proofs.Spans.{span-le, span-add, span-tight, span-shift, span-at}
-use Rattle.heights.specs.Residual.{Steps, Open, Fitted, All-fitted, Gaining}
+use Rattle.heights.specs.Residual.{Steps, All-fitted, Gaining}
 use Rattle.heights.specs.Search.{Link, Searched}
 use Rattle.heights.proofs.Repeats.{Repeat, repeats}
 

@@ -1,6 +1,6 @@
 -- One invoice by heights, what it counts for and whether they fit there; and what is told of all of them. Assumes nothing.
 use mathlib.Core.Bool.{Bool}
-use mathlib.Core.Path.{_≡_, refl}
+use mathlib.Core.Path.{_≡_}
 use Prim.Native.Nat.{ℕ, _+_, _*_, _-_, _^_, _≤_, _<_}
 use native.Mathlib.Omega.{arith}
 use Rattle.std.specs.Orderings.{Decides}

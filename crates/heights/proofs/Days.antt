@@ -1,17 +1,16 @@
 -- The theorems of the clearing day: a day is the network in which every arc counts. Assumes nothing.
-use mathlib.Core.Path.{_≡_, _∙_, refl, sym, ap, subst}
-use Prim.Native.Nat.{ℕ, _+_, _*_, _-_, _≤_, _<_}
+use mathlib.Core.Path.{_≡_, _∙_, refl, ap}
+use Prim.Native.Nat.{ℕ, _+_, _*_, _-_, _<_}
 use native.Mathlib.Nat.{mul-le-mul-left}
 use native.Mathlib.Omega.{arith}
 use lib.Dec.{eqb}
-use Rattle.std.proofs.shelf.Tests.{cases-eq}
 use Rattle.day.specs.Bills.{Day, pick, span, let-off, lets-off, Set-off, total, Greatest, bound, Ring, one, more}
 use Rattle.setoff.specs.Promise.{left-by}
 use Rattle.setoff.proofs.Spans.{pick-same, pick-other, span-differ}
-use Rattle.heights.specs.Network.{Network, network-of, outflow, inflow, Circulation, gain, Maximum, dual, Fit, Certified}
-use Rattle.heights.specs.Promise.{Fits, Shown, Always, Heights-bound, Meets-is-greatest, Slackness, No-ring-left, raised, Raise}
+use Rattle.heights.specs.Network.{network-of, outflow, inflow, Circulation, gain, Maximum, dual, Fit, Certified}
+use Rattle.heights.specs.Promise.{Fits, Shown, Always, Always-from, Heights-bound, Meets-is-greatest, Slackness, No-ring-left, raised, Raise}
 use Rattle.heights.proofs.Duality.{gain-le-dual, tight-fit, fit-tight, tight-maximum}
-use Rattle.heights.proofs.Existence.{from-any, nothing-even}
+use Rattle.heights.proofs.Existence.{always-from, nothing-even}
 
 pub circulation : {d : Day} {s : ℕ → ℕ} → Set-off d s → Circulation (network-of d) s
 unfolding let-off lets-off outflow inflow
@@ -65,8 +64,8 @@ shown certified =
     }
 
 pub always : Always
-unfolding Always
-always d = let found = from-any (network-of d) (λ e. 0) (nothing-even (network-of d)) in (found .0, found .1, shown (found .2))
+unfolding Always Always-from
+always d = let found = always-from (network-of d) (λ e. 0) (nothing-even (network-of d)) in (found .0, found .1, shown (found .2))
 
 -- heights that show one greatest set-off show every other
 shows : (d : Day) (s : ℕ → ℕ) → Greatest d s → (h : ℕ → ℕ) × (total d s ≡ bound d h) × ((v : ℕ) → v < d .firms → h v < d .firms)

@@ -1,11 +1,10 @@
 -- Weak duality, and that a circulation meets the bound of potentials exactly where they fit it. Assumes nothing.
 use mathlib.Core.Bool.{Bool, true, false}
-use mathlib.Core.Logic.{_⊎_, inl, inr}
-use mathlib.Core.Path.{_≡_, _∙_, refl, sym, ap}
+use mathlib.Core.Logic.{inl, inr}
+use mathlib.Core.Path.{_≡_, _∙_, sym, ap}
 use Prim.Native.Nat.{ℕ, _+_, _*_, _-_, _≤_, _<_}
 use native.Mathlib.Nat.{mul-le-mul-left, mul-le-mul-right}
 use native.Mathlib.Omega.{arith}
-use lib.Dec.{eqb}
 use Rattle.std.proofs.shelf.Tests.{cases-lt, cases-eq}
 use Rattle.day.specs.Bills.{pick, span}
 use Rattle.setoff.proofs.Spans.{span-le, span-ext, span-add, span-tight, weigh}

@@ -1,16 +1,16 @@
 -- The worked days hold: one test for all of them, which is computed, and what follows from it. Assumes nothing.
 use mathlib.Core.Bool.{Bool, true, false, not, _&&_, _||_}
 use mathlib.Core.List.{List, [], _∷_}
-use mathlib.Core.Logic.{_⊎_, _≢_, inl, inr}
-use mathlib.Core.Path.{_≡_, _∙_, refl, sym, ap}
+use mathlib.Core.Logic.{inl, inr}
+use mathlib.Core.Path.{_≡_, _∙_, refl, ap}
 use Prim.Native.Nat.{ℕ, zero, suc, _+_, _*_, _-_, _^_, _≤_, _<_}
 use native.Mathlib.Omega.{arith}
 use lib.Dec.{eqb, ltb, leb}
-use lib.ListN.{length, getD}
+use lib.ListN.{length}
 use Rattle.std.specs.shelf.Lists.{All}
 use Rattle.std.proofs.shelf.Tests.{cases-eq, eqb-true, eqb-false, ltb-true, leb-true, and-parts, or-cases, not-true}
 use Rattle.day.specs.Bills.{Day, Sound, day-of, pick, span, reads, let-off, lets-off, Set-off, total, bound}
-use Rattle.day.specs.File.{debtors, creditors, amounts, Sound-list}
+use Rattle.day.specs.File.{debtors, creditors, amounts}
 use Rattle.heights.specs.Promise.{Fits, Shown, Meets-is-greatest, Slackness}
 use Rattle.heights.specs.Worked.{Worked, Holds, worked, Worked-days}
 use Rattle.heights.proofs.Days.{meets-is-greatest, slackness}

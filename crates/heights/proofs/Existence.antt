@@ -1,7 +1,6 @@
 -- Every network has a greatest circulation with least potentials that show it, from any circulation on. Assumes nothing.
 use mathlib.Core.Bool.{Bool, true, false}
-use mathlib.Core.Logic.{_⊎_, inl, inr}
-use mathlib.Core.Path.{_≡_, _∙_, refl, sym, ap, subst, subst₂}
+use mathlib.Core.Path.{_≡_, _∙_, refl, sym, subst, subst₂}
 use Prim.Native.Nat.{ℕ, zero, suc, _+_, _*_, _-_, _/_, _%_, _≤_, _<_}
 use native.Mathlib.Omega.{arith}
 use lib.Dec.{eqb}
@@ -9,12 +8,13 @@ use Rattle.std.proofs.shelf.Tests.{eq-eqb, ne-eqb}
 use Rattle.day.specs.Bills.{pick, span}
 use Rattle.setoff.proofs.Spans.{span-le, span-none}
 use Rattle.heights.specs.Network.{Network, outflow, inflow, Circulation, unit, gain, Fit, Certified}
-use Rattle.heights.specs.Residual.{Steps, Open, All-fitted, Gaining, along, residual, pushed-all}
-use Rattle.heights.specs.Search.{Searched}
+use Rattle.heights.specs.Residual.{All-fitted, along, residual, pushed-all}
+use Rattle.heights.specs.Promise.{Always-from, Search-ends, Ring-gains}
+use Rattle.heights.specs.Search.{Searched, rings, fits}
 use Rattle.heights.proofs.Duality.{fit-tight, tight-maximum}
 use Rattle.heights.proofs.Chains.{low, least}
-use Rattle.heights.proofs.Rounds.{Answer, rings, fits, answer}
-use Rattle.heights.proofs.Pushing.{ring-circulation, ring-gain}
+use Rattle.heights.proofs.Rounds.{search-ends}
+use Rattle.heights.proofs.Pushing.{ring-gains}
 
 module _ (N : Network) (s : ℕ → ℕ) where
   -- the two steps of arc e: along it where b is true, else back
@@ -101,15 +101,18 @@ module _ (N : Network) (s : ℕ → ℕ) where
 -- each ring gains a cent at least, and there are no more to gain than all capacities
 climb : (N : Network) (fuel : ℕ) (s : ℕ → ℕ) → Circulation N s → span (N .capacity) (N .arcs) < gain N s + fuel →
     (q : ℕ → ℕ) × (h : ℕ → ℕ) × Certified N q h
+unfolding Search-ends Ring-gains
 climb N zero s even more = absurd (omega (arith, gain-le N s even))
-climb N (suc fuel) s even more = elim (answer (residual N s 1) (tails-there N s)) [
+climb N (suc fuel) s even more = elim (search-ends (residual N s 1) (tails-there N s)) [
   | fits k i num last at all ↦ (s, num, certified N s even k i num last at all)
   | rings m u at ring ↦
-      climb N fuel (pushed-all s at 1 m) (ring-circulation N s 1 m u at even ring) (omega (arith, ring-gain N s 1 m u at even ring (omega arith)))
+      let pushed = ring-gains N s 1 m u at even ring in
+      climb N fuel (pushed-all s at 1 m) (pushed .0) (omega (arith, pushed .1))
 ]
 
-pub from-any : (N : Network) (s : ℕ → ℕ) → Circulation N s → (q : ℕ → ℕ) × (h : ℕ → ℕ) × Certified N q h
-from-any N s even = climb N (suc (span (N .capacity) (N .arcs))) s even (omega arith)
+pub always-from : Always-from
+unfolding Always-from
+always-from N s even = climb N (suc (span (N .capacity) (N .arcs))) s even (omega arith)
 
 pub nothing-even : (N : Network) → Circulation N (λ e. 0)
 unfolding outflow inflow

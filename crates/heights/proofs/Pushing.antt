@@ -1,6 +1,6 @@
 -- Pushing c cents along a step, and round a ring of steps that all have room for them: a circulation again, that gains more. Assumes nothing.
 use mathlib.Core.Bool.{Bool, true, false}
-use mathlib.Core.Logic.{_⊎_, _≢_, inl, inr}
+use mathlib.Core.Logic.{_≢_, inl, inr}
 use mathlib.Core.Path.{_≡_, _∙_, refl, sym, ap, subst}
 use Prim.Native.Nat.{ℕ, zero, suc, _+_, _*_, _-_, _/_, _%_, _≤_, _<_}
 use native.Mathlib.Nat.{mul-le-mul-left}
@@ -8,9 +8,10 @@ use native.Mathlib.Omega.{arith}
 use lib.Dec.{eqb}
 use Rattle.std.proofs.shelf.Tests.{cases-eq, cases-bool, eqb-true, eqb-false}
 use Rattle.day.specs.Bills.{pick, span}
-use Rattle.setoff.proofs.Spans.{pick-same, pick-other, span-differ, span-zero, span-suc}
-use Rattle.heights.specs.Network.{Network, outflow, inflow, Circulation, unit, gain}
-use Rattle.heights.specs.Residual.{Steps, along, room-of, residual, Gaining, pushed, pushed-all}
+use Rattle.setoff.proofs.Spans.{pick-same, pick-other, span-differ}
+use Rattle.heights.specs.Network.{Network, outflow, inflow, Circulation, gain}
+use Rattle.heights.specs.Promise.{Ring-gains}
+use Rattle.heights.specs.Residual.{along, room-of, residual, Gaining, pushed, pushed-all}
 
 pub pushed-at : (s : ℕ → ℕ) (f c e : ℕ) → e ≡ f / 2 → pushed s f c e ≡ pick (along f) (s e + c) (s e - c)
 unfolding pushed
@@ -167,18 +168,22 @@ module _ (N : Network) (s : ℕ → ℕ) (c m : ℕ) (u at : ℕ → ℕ) (even 
   goes (suc j) l = go j (omega arith) (goes j (omega arith))
 
   -- all the way round
-  pub ring-circulation : Circulation N (pushed-all s at c m)
-  ring-circulation =
+  round-circulation : Circulation N (pushed-all s at c m)
+  round-circulation =
       let end = goes m (omega arith) in
       record {
         within = end .within;
         even = λ v h. let p = end .flows v h in let q = ap (λ z. pick (eqb z v) c 0) (ring .closed) in omega arith;
       }
 
-  pub ring-gain : 0 < c → gain N s < gain N (pushed-all s at c m)
-  ring-gain some =
+  round-gain : gain N s + c ≤ gain N (pushed-all s at c m)
+  round-gain =
       let p = goes m (omega arith) .gains in
       let down = span (λ t. residual N s c .down (at t)) m in
       let up = span (λ t. residual N s c .up (at t)) m in
       let more = mul-le-mul-left {m = down + 1} {n = up} c (let g = ring .gains in omega arith) in
       omega arith
+
+pub ring-gains : Ring-gains
+unfolding Ring-gains
+ring-gains N s c m u at even ring = (round-circulation N s c m u at even ring, round-gain N s c m u at even ring)

@@ -1,11 +1,12 @@
 -- The search run: in rounds over all steps, until every step is fitted or a ring gains. Assumes nothing.
 use mathlib.Core.Logic.{_⊎_, inl, inr}
-use mathlib.Core.Path.{_≡_, sym, subst}
+use mathlib.Core.Path.{sym, subst}
 use Prim.Native.Nat.{ℕ, zero, suc, _+_, _-_, _≤_, _<_}
 use native.Mathlib.Omega.{arith}
 use Rattle.std.proofs.shelf.Tests.{cases-eq, cases-lt}
-use Rattle.heights.specs.Residual.{Steps, Open, Fitted, All-fitted, Gaining}
-use Rattle.heights.specs.Search.{put, Searched}
+use Rattle.heights.specs.Residual.{Steps, Open, Fitted}
+use Rattle.heights.specs.Promise.{Search-ends}
+use Rattle.heights.specs.Search.{put, Searched, rings, fits}
 use Rattle.heights.proofs.Searching.{begins, passes, raises}
 use Rattle.heights.proofs.Chains.{late-ring}
 
@@ -82,13 +83,10 @@ unfitted S num (suc i) = elim (unfitted S num i) [
       ]
 ]
 
--- the search's answer
-pub data Answer (S : Steps) : Type 0 where
-  rings : (m : ℕ) (u at : ℕ → ℕ) → Gaining S m u at → Answer S
-  fits : (k i : ℕ) (num last : ℕ → ℕ) → Searched S k i num last → All-fitted S num → Answer S
-
-pub answer : (S : Steps) → ((f : ℕ) → f < S .steps → S .tail f < S .nodes) → Answer S
-answer S there =
+-- as many rounds as there are nodes, and one, are enough
+pub search-ends : Search-ends
+unfolding Search-ends
+search-ends S there =
     let n = S .nodes in
     let st = round S (suc n) (S .steps) (begun S n) in
     elim (unfitted S (st .num) (S .steps)) [

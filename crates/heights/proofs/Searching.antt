@@ -1,9 +1,9 @@
 -- The search keeps what it promises: a step that raises a node, a step that is passed over, a round, all rounds. Assumes nothing.
-use mathlib.Core.Logic.{_⊎_, _≢_, inl, inr}
+use mathlib.Core.Logic.{_≢_, inl, inr}
 use mathlib.Core.Path.{_≡_, _∙_, refl, sym, ap, subst}
-use Prim.Native.Nat.{ℕ, zero, suc, _+_, _*_, _-_, _≤_, _<_}
+use Prim.Native.Nat.{ℕ, suc, _+_, _-_, _≤_, _<_}
 use native.Mathlib.Omega.{arith}
-use Rattle.std.proofs.shelf.Tests.{cases-eq, cases-lt}
+use Rattle.std.proofs.shelf.Tests.{cases-eq}
 use Rattle.setoff.proofs.Spans.{pick-same, pick-other}
 use Rattle.heights.specs.Residual.{Steps, Open, Fitted}
 use Rattle.heights.specs.Search.{put, Link, Searched}

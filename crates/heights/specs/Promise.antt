@@ -1,10 +1,12 @@
 -- What is promised of heights and of greatest set-offs, in the words of the rules. Each is a statement, whose proof is owed. Assumes nothing.
 use mathlib.Core.Path.{_≡_}
-use Prim.Native.Nat.{ℕ, _+_, _*_, _-_, _≤_, _<_}
+use Prim.Native.Nat.{ℕ, _+_, _*_, _≤_, _<_}
 use lib.Dec.{eqb}
 use Rattle.day.specs.Bills.{Day, pick, Set-off, total, Greatest, bound, Ring}
 use Rattle.setoff.specs.Promise.{left-by}
-use Rattle.heights.specs.Network.{Network, Circulation, Certified}
+use Rattle.heights.specs.Network.{Network, Circulation, gain, Certified}
+use Rattle.heights.specs.Residual.{Steps, residual, Gaining, pushed-all}
+use Rattle.heights.specs.Search.{Answer}
 
 -- heights fit a set-off: an invoice with something left leads up by one at least, one with something struck out by one at most
 pub record Fits (d : Day) (s h : ℕ → ℕ) : Type 0 where
@@ -27,6 +29,16 @@ Always = (d : Day) → (s : ℕ → ℕ) × (h : ℕ → ℕ) × Shown d s h
 -- and so has every network, whichever of its arcs count, from any circulation on
 unfoldable pub Always-from : Type 0
 Always-from = (N : Network) (s : ℕ → ℕ) → Circulation N s → (q : ℕ → ℕ) × (h : ℕ → ℕ) × Certified N q h
+
+-- for two reasons. A search over steps ends with a ring that gains, or with numbers by which no open step would gain;
+unfoldable pub Search-ends : Type 0
+Search-ends = (S : Steps) → ((f : ℕ) → f < S .steps → S .tail f < S .nodes) → Answer S
+
+-- and c cents pushed round a ring whose steps have room for them make a circulation that gains c more at least
+unfoldable pub Ring-gains : Type 0
+Ring-gains =
+    (N : Network) (s : ℕ → ℕ) (c m : ℕ) (u at : ℕ → ℕ) → Circulation N s → Gaining (residual N s c) m u at →
+    Circulation N (pushed-all s at c m) × (gain N s + c ≤ gain N (pushed-all s at c m))
 
 -- whatever the heights, no set-off is above their bound
 unfoldable pub Heights-bound : Type 0

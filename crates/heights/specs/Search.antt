@@ -4,7 +4,7 @@ use mathlib.Core.Path.{_≡_}
 use Prim.Native.Nat.{ℕ, suc, _+_, _≤_, _<_}
 use lib.Dec.{eqb}
 use Rattle.day.specs.Bills.{pick}
-use Rattle.heights.specs.Residual.{Steps, Open, Fitted}
+use Rattle.heights.specs.Residual.{Steps, Open, Fitted, All-fitted, Gaining}
 
 -- a function with one value changed
 unfoldable pub put : (ℕ → ℕ) → ℕ → ℕ → ℕ → ℕ
@@ -27,3 +27,8 @@ pub record Searched (S : Steps) (k i : ℕ) (num last : ℕ → ℕ) : Type 0 wh
   pub recent : (v : ℕ) → when v ≤ k
   pub passed : (f : ℕ) → Open S f → f < i → Fitted S num f ⊎ (when (S .tail f) ≡ k)
   pub ahead : (f : ℕ) → Open S f → i ≤ f → Fitted S num f ⊎ (k ≤ when (S .tail f) + 1)
+
+-- how a search ends: with a ring that gains, or with numbers by which no open step would gain
+pub data Answer (S : Steps) : Type 0 where
+  rings : (m : ℕ) (u at : ℕ → ℕ) → Gaining S m u at → Answer S
+  fits : (k i : ℕ) (num last : ℕ → ℕ) → Searched S k i num last → All-fitted S num → Answer S

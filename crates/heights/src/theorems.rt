@@ -1,5 +1,5 @@
 // The theorems of the clearing day, for days of any size, each as the contract of a function: without its proof the crate is refused.
-ghost use Rattle.heights.specs.Promise.{Always, Always-from, Heights-bound, Meets-is-greatest, Slackness, No-ring-left, Raise};
+ghost use Rattle.heights.specs.Promise.{Always, Always-from, Search-ends, Ring-gains, Heights-bound, Meets-is-greatest, Slackness, No-ring-left, Raise};
 ghost use Rattle.heights.specs.Worked.{Worked-days};
 
 // No set-off is above the bound of any heights.
@@ -35,6 +35,16 @@ fn every_day_is_shown()
 // So has every network, whichever of its arcs count, from any circulation on.
 fn every_network_is_certified()
     ensures { λ _. ⌜ Always-from ⌝ }
+{}
+
+// A search for rings ends with one that gains, or with numbers that are potentials.
+fn a_search_ends()
+    ensures { λ _. ⌜ Search-ends ⌝ }
+{}
+
+// Cents pushed round a ring that gains make a circulation that gains more.
+fn a_ring_gains()
+    ensures { λ _. ⌜ Ring-gains ⌝ }
 {}
 
 // The worked days have the totals and heights that are told of them.

@@ -1,10 +1,8 @@
 -- Heights that fit at each invoice fit, and what they then say of the set-off is complementary slackness.
 use mathlib.Core.Bool.{true, false}
 use borrow.Author.Needs.{needs}
-use Rattle.std.specs.Orderings.{Decides}
 use Rattle.day.specs.Bills.{reads}
 use Rattle.setoff.specs.Rows.{day-in}
-use Rattle.heights.specs.Promise.{Fits}
 use Rattle.heights.proofs.Counted.{judges}
 use Rattle.heights.proofs.fitting.fits_each.Needs as need
 

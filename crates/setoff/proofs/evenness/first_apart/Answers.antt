@@ -1,5 +1,5 @@
 -- Where no two sums differ, the cents are a set-off, and so each position is kept.
-use mathlib.Core.Path.{_≡_, _∙_, sym}
+use mathlib.Core.Path.{_∙_, sym}
 use Prim.Native.Nat.{_<_}
 use native.Mathlib.Omega.{arith}
 use lib.ListN.{length}
