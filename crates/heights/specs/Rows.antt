@@ -7,18 +7,18 @@ use lib.ListN.{length}
 use Rattle.std.specs.Results.{Cases}
 use Rattle.std.specs.declared.result.Result.{Result}
 use Rattle.day.specs.Bills.{reads}
-use Rattle.heights.specs.declared.faults.Fault.{Fault}
-use Rattle.heights.specs.declared.faults.Fault.the-variants.{Length, Above}
+use Rattle.heights.specs.declared.rejections.Rejection.{Rejection}
+use Rattle.heights.specs.declared.rejections.Rejection.the-variants.{Length, Above}
 
 pub record Low (n : ℕ) (heights : List ℕ) : Type 0 where
   pub each : length heights ≡ n
   pub low : (v : ℕ) → v < n → reads heights v ≤ n
 
 -- the row is of another length, or else a firm is the first whose height is above the number of firms
-abbrev pub Faulty : ℕ → List ℕ → Fault → Type 0
-Faulty n heights (Length l) = (l ≡ length heights) × (length heights ≢ n)
-Faulty n heights (Above v) = (length heights ≡ n) × (v < n) × (n < reads heights v) × ((u : ℕ) → u < v → reads heights u ≤ n)
+abbrev pub Rejected : ℕ → List ℕ → Rejection → Type 0
+Rejected n heights (Length l) = (l ≡ length heights) × (length heights ≢ n)
+Rejected n heights (Above v) = (length heights ≡ n) × (v < n) × (n < reads heights v) × ((u : ℕ) → u < v → reads heights u ≤ n)
 
 -- an answer that says P of heights that are taken
-abbrev pub Answers : {A : Type 0} → ℕ → List ℕ → (A → Type 0) → Result A Fault → Type 0
-Answers n heights P r = Cases r (λ a. Low n heights × P a) (λ f. Faulty n heights f)
+abbrev pub Answers : {A : Type 0} → ℕ → List ℕ → (A → Type 0) → Result A Rejection → Type 0
+Answers n heights P r = Cases r (λ a. Low n heights × P a) (λ f. Rejected n heights f)

@@ -5,8 +5,8 @@ ghost use Rattle.day.specs.Bills.{reads};
 ghost use Rattle.setoff.specs.Rows.{day-in};
 ghost use Rattle.heights.specs.Rows.{Low, Answers};
 ghost use Rattle.heights.specs.Told.{Bounds};
-use crate::faults::Fault;
-use crate::faults::check;
+use crate::rejections::Rejection;
+use crate::rejections::check;
 use setoff::Invoices;
 
 // How many times an invoice counts: as much as the height of who owes it, and one, are above the height of who is owed.
@@ -31,7 +31,7 @@ fn add_up(invoices: Invoices, heights: &[u16]) -> u64
 }
 
 // The bound of one height for each firm, none of them above the number of firms.
-pub fn bound(invoices: Invoices, heights: &[u16]) -> Result<u64, Fault>
+pub fn bound(invoices: Invoices, heights: &[u16]) -> Result<u64, Rejection>
     ensures { λ r. ⌜ Answers (invoices .entry .firms) (now (heights .entry)) (Bounds (day-in (invoices .entry)) (reads (now (heights .entry)))) r ⌝ }
 {
     check(invoices.firms, heights)?;

@@ -5,8 +5,8 @@ ghost use Rattle.day.specs.Bills.{reads};
 ghost use Rattle.setoff.specs.Rows.{day-in};
 ghost use Rattle.heights.specs.Rows.{Low, Answers};
 ghost use Rattle.heights.specs.Told.{Judges};
-use crate::faults::Fault;
-use crate::faults::check;
+use crate::rejections::Rejection;
+use crate::rejections::check;
 use setoff::Struck;
 
 // Whether an invoice leads up by one at least where something is left of it, and by one at most where something is struck out.
@@ -33,7 +33,7 @@ fn fits_each(struck: Struck, heights: &[u16]) -> bool
 }
 
 // Whether heights, one for each firm and none above the number of firms, fit what is struck out.
-pub fn fit(struck: Struck, heights: &[u16]) -> Result<bool, Fault>
+pub fn fit(struck: Struck, heights: &[u16]) -> Result<bool, Rejection>
     ensures { λ r. ⌜ Answers (struck .entry .invoices .firms) (now (heights .entry)) (Judges (day-in (struck .entry .invoices)) (reads (now (struck .entry .cents))) (reads (now (heights .entry)))) r ⌝ }
 {
     let invoices = struck.invoices;

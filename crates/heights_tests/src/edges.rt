@@ -2,9 +2,9 @@
 use crate::helpers::Case;
 use crate::helpers::look;
 use day::MOST_CENTS;
-use heights::Fault;
-use heights::FaultDebug;
-use heights::FaultPartialEq;
+use heights::Rejection;
+use heights::RejectionDebug;
+use heights::RejectionPartialEq;
 use setoff::Misfit;
 use setoff::MisfitDebug;
 use setoff::MisfitPartialEq;
@@ -82,18 +82,21 @@ fn cents_within() -> Result<(), Fail> {
 
 #[test]
 fn heights_low() -> Result<(), Fail> {
-    check_eq(look(pair(&[], &[]))?.bound, Err(Fault::Length(0)))?;
-    check_eq(look(pair(&[], &[3]))?.bound, Err(Fault::Length(1)))?;
-    check_eq(look(pair(&[], &[0, 0, 0]))?.bound, Err(Fault::Length(3)))?;
+    check_eq(look(pair(&[], &[]))?.bound, Err(Rejection::Length(0)))?;
+    check_eq(look(pair(&[], &[3]))?.bound, Err(Rejection::Length(1)))?;
+    check_eq(
+        look(pair(&[], &[0, 0, 0]))?.bound,
+        Err(Rejection::Length(3)),
+    )?;
     check_eq(look(pair(&[], &[0, 0]))?.bound, Ok(17))?;
     check_eq(look(pair(&[], &[0, 1]))?.bound, Ok(14))?;
     check_eq(look(pair(&[], &[2, 0]))?.bound, Ok(30))?;
     check_eq(look(pair(&[], &[0, 2]))?.bound, Ok(21))?;
-    check_eq(look(pair(&[], &[3, 0]))?.bound, Err(Fault::Above(0)))?;
-    check_eq(look(pair(&[], &[0, 3]))?.bound, Err(Fault::Above(1)))?;
+    check_eq(look(pair(&[], &[3, 0]))?.bound, Err(Rejection::Above(0)))?;
+    check_eq(look(pair(&[], &[0, 3]))?.bound, Err(Rejection::Above(1)))?;
     check_eq(
         look(pair(&[], &[u16::MAX, u16::MAX]))?.bound,
-        Err(Fault::Above(0)),
+        Err(Rejection::Above(0)),
     )
 }
 

@@ -1,7 +1,7 @@
 // What the tests share: a case in rows, and all that is found of it.
-use heights::Fault;
-use heights::FaultDebug;
-use heights::FaultPartialEq;
+use heights::Rejection;
+use heights::RejectionDebug;
+use heights::RejectionPartialEq;
 use heights::bound;
 use heights::fit;
 use setoff::Invoices;
@@ -38,7 +38,7 @@ pub(crate) struct Found {
 #[derive(Clone, Copy, PartialEq, Eq, Debug)]
 pub(crate) struct Looked {
     pub(crate) cents: Result<(), Misfit>,
-    pub(crate) bound: Result<u64, Fault>,
+    pub(crate) bound: Result<u64, Rejection>,
 }
 
 // A set-off whose total is the bound of heights that fit it.

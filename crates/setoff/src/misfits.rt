@@ -1,5 +1,5 @@
 // Whether a row of cents can be struck out of a day's invoices, and if not, why.
-ghost use Rattle.setoff.specs.Fits.{Fitting};
+ghost use Rattle.setoff.specs.Strike.{Strikes};
 ghost use Rattle.setoff.specs.Rows.{day-in};
 use crate::invoices::Invoices;
 
@@ -14,7 +14,7 @@ pub enum Misfit {
 
 // Whether a row of cents has a place for each invoice, and takes from none more than it is.
 pub fn within(invoices: Invoices, cents: &[u64]) -> Result<(), Misfit>
-    ensures { λ r. ⌜ Fitting (day-in (invoices .entry)) (now (cents .entry)) r ⌝ }
+    ensures { λ r. ⌜ Strikes (day-in (invoices .entry)) (now (cents .entry)) r ⌝ }
 {
     if cents.len() != invoices.amount.len() {
         return Err(Misfit::Length(cents.len()));
