@@ -2,7 +2,7 @@
 ghost use Prim.Native.Nat.{_+_, _≤_, _<_};
 ghost use Rattle.std.specs.Orderings.{Decides};
 ghost use Rattle.day.specs.Bills.{reads};
-ghost use Rattle.setoff.specs.Rows.{day-in};
+ghost use Rattle.setoff.specs.Rows.{day-in, cents-in};
 ghost use Rattle.heights.specs.Rows.{Low, Answers};
 ghost use Rattle.heights.specs.Told.{Judges};
 use crate::rejections::Rejection;
@@ -19,7 +19,7 @@ fn fits_at(amount: u64, cents: u64, from: u16, to: u16) -> bool
 // Whether heights that are low fit at each invoice.
 fn fits_each(struck: Struck, heights: &[u16]) -> bool
     requires { ⌜ Low (struck .invoices .firms) (now heights) ⌝ }
-    ensures { λ r. ⌜ Judges (day-in (struck .entry .invoices)) (reads (now (struck .entry .cents))) (reads (now (heights .entry))) r ⌝ }
+    ensures { λ r. ⌜ Judges (day-in (struck .entry .invoices)) (cents-in (struck .entry)) (reads (now (heights .entry))) r ⌝ }
 {
     let invoices = struck.invoices;
     for e in 0..invoices.from.len() {
@@ -34,7 +34,7 @@ fn fits_each(struck: Struck, heights: &[u16]) -> bool
 
 // Whether heights, one for each firm and none above the number of firms, fit what is struck out.
 pub fn fit(struck: Struck, heights: &[u16]) -> Result<bool, Rejection>
-    ensures { λ r. ⌜ Answers (struck .entry .invoices .firms) (now (heights .entry)) (Judges (day-in (struck .entry .invoices)) (reads (now (struck .entry .cents))) (reads (now (heights .entry)))) r ⌝ }
+    ensures { λ r. ⌜ Answers (struck .entry .invoices .firms) (now (heights .entry)) (Judges (day-in (struck .entry .invoices)) (cents-in (struck .entry)) (reads (now (heights .entry)))) r ⌝ }
 {
     let invoices = struck.invoices;
     check(invoices.firms, heights)?;

@@ -64,40 +64,40 @@ fn pair<'a>(cents: &'a [u64], heights: &'a [u16]) -> Case<'a> {
 
 #[test]
 fn cents_within() -> Result<(), Fail> {
-    check_eq(look(pair(&[], &[0, 0]))?.cents, Err(Misfit::Length(0)))?;
-    check_eq(look(pair(&[11], &[0, 0]))?.cents, Err(Misfit::Length(1)))?;
-    check_eq(
-        look(pair(&[1, 1, 1], &[0, 0]))?.cents,
-        Err(Misfit::Length(3)),
-    )?;
-    check_eq(look(pair(&[10, 7], &[0, 0]))?.cents, Ok(()))?;
-    check_eq(look(pair(&[11, 7], &[0, 0]))?.cents, Err(Misfit::Above(0)))?;
-    check_eq(look(pair(&[10, 8], &[0, 0]))?.cents, Err(Misfit::Above(1)))?;
-    check_eq(look(pair(&[11, 8], &[0, 0]))?.cents, Err(Misfit::Above(0)))?;
-    check_eq(
-        look(pair(&[0, u64::MAX], &[0, 0]))?.cents,
-        Err(Misfit::Above(1)),
-    )
+    let cases: [(&[u64], Result<(), Misfit>); 8] = [
+        (&[], Err(Misfit::Length(0))),
+        (&[11], Err(Misfit::Length(1))),
+        (&[1, 1, 1], Err(Misfit::Length(3))),
+        (&[10, 7], Ok(())),
+        (&[11, 7], Err(Misfit::Above(0))),
+        (&[10, 8], Err(Misfit::Above(1))),
+        (&[11, 8], Err(Misfit::Above(0))),
+        (&[0, u64::MAX], Err(Misfit::Above(1))),
+    ];
+    for (cents, answer) in cases {
+        check_eq(look(pair(cents, &[0, 0]))?.cents, answer)?;
+    }
+    Ok(())
 }
 
 #[test]
 fn heights_low() -> Result<(), Fail> {
-    check_eq(look(pair(&[], &[]))?.bound, Err(Rejection::Length(0)))?;
-    check_eq(look(pair(&[], &[3]))?.bound, Err(Rejection::Length(1)))?;
-    check_eq(
-        look(pair(&[], &[0, 0, 0]))?.bound,
-        Err(Rejection::Length(3)),
-    )?;
-    check_eq(look(pair(&[], &[0, 0]))?.bound, Ok(17))?;
-    check_eq(look(pair(&[], &[0, 1]))?.bound, Ok(14))?;
-    check_eq(look(pair(&[], &[2, 0]))?.bound, Ok(30))?;
-    check_eq(look(pair(&[], &[0, 2]))?.bound, Ok(21))?;
-    check_eq(look(pair(&[], &[3, 0]))?.bound, Err(Rejection::Above(0)))?;
-    check_eq(look(pair(&[], &[0, 3]))?.bound, Err(Rejection::Above(1)))?;
-    check_eq(
-        look(pair(&[], &[u16::MAX, u16::MAX]))?.bound,
-        Err(Rejection::Above(0)),
-    )
+    let cases: [(&[u16], Result<u64, Rejection>); 10] = [
+        (&[], Err(Rejection::Length(0))),
+        (&[3], Err(Rejection::Length(1))),
+        (&[0, 0, 0], Err(Rejection::Length(3))),
+        (&[0, 0], Ok(17)),
+        (&[0, 1], Ok(14)),
+        (&[2, 0], Ok(30)),
+        (&[0, 2], Ok(21)),
+        (&[3, 0], Err(Rejection::Above(0))),
+        (&[0, 3], Err(Rejection::Above(1))),
+        (&[u16::MAX, u16::MAX], Err(Rejection::Above(0))),
+    ];
+    for (heights, answer) in cases {
+        check_eq(look(pair(&[], heights))?.bound, answer)?;
+    }
+    Ok(())
 }
 
 // 4,096 invoices of 10^12 cents, each counted 513 times.

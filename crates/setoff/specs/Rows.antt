@@ -6,6 +6,7 @@ use denote.Ref.{now}
 use lib.ListN.{length}
 use Rattle.day.specs.Bills.{Day, Sound, day-of, reads}
 use Rattle.setoff.specs.declared.invoices.Invoices.{Invoices}
+use Rattle.setoff.specs.declared.struck.Struck.{Struck}
 
 -- rows with a place for each invoice, within the limits of a clearing day of n firms
 pub record Sound-rows (n : ℕ) (from to amount : List ℕ) : Type 0 where
@@ -34,3 +35,7 @@ rows-in i =
 -- the day that they are
 abbrev pub day-in : Invoices → Day
 day-in i = day-of (i .firms) (length (now (i .from))) (reads (now (i .from))) (reads (now (i .to))) (reads (now (i .amount))) (rows-in i .sound)
+
+-- what is struck out of each of its invoices
+abbrev pub cents-in : Struck → ℕ → ℕ
+cents-in s = reads (now (s .cents))

@@ -3,7 +3,7 @@ ghost use mathlib.Core.Path.{_≡_};
 ghost use Prim.Native.Nat.{ℕ, _≤_, _<_};
 ghost use lib.ListN.{length};
 ghost use Rattle.day.specs.Bills.{reads, let-off, lets-off};
-ghost use Rattle.setoff.specs.Rows.{day-in};
+ghost use Rattle.setoff.specs.Rows.{day-in, cents-in};
 ghost use Rattle.setoff.specs.Uneven.{Evenness};
 use crate::struck::Struck;
 use day::MOST_FIRMS;
@@ -15,8 +15,8 @@ const PLACES: usize = MOST_FIRMS as usize;
 fn tally(struck: Struck, gains: &mut [u64], gives: &mut [u64])
     requires room { ⌜ (struck .invoices .firms ≤ length (now gains)) × (struck .invoices .firms ≤ length (now gives)) ⌝ }
     requires clear { ⌜ ((v : ℕ) → (reads (now gains) v ≡ 0) × (reads (now gives) v ≡ 0)) ⌝ }
-    ensures gains { λ _. ⌜ ((v : ℕ) → v < length (now (gains .exit)) → reads (now (gains .exit)) v ≡ let-off (day-in (struck .entry .invoices)) (reads (now (struck .entry .cents))) v) ⌝ }
-    ensures gives { λ _. ⌜ ((v : ℕ) → v < length (now (gives .exit)) → reads (now (gives .exit)) v ≡ lets-off (day-in (struck .entry .invoices)) (reads (now (struck .entry .cents))) v) ⌝ }
+    ensures gains { λ _. ⌜ ((v : ℕ) → v < length (now (gains .exit)) → reads (now (gains .exit)) v ≡ let-off (day-in (struck .entry .invoices)) (cents-in (struck .entry)) v) ⌝ }
+    ensures gives { λ _. ⌜ ((v : ℕ) → v < length (now (gives .exit)) → reads (now (gives .exit)) v ≡ lets-off (day-in (struck .entry .invoices)) (cents-in (struck .entry)) v) ⌝ }
 {
     for e in 0..struck.cents.len() {
         let cents = struck.cents[e];
@@ -28,9 +28,9 @@ fn tally(struck: Struck, gains: &mut [u64], gives: &mut [u64])
 // The first firm whose two sums differ.
 fn first_apart(struck: Struck, gains: &[u64], gives: &[u64]) -> Option<u16>
     requires room { ⌜ (struck .invoices .firms ≤ length (now gains)) × (struck .invoices .firms ≤ length (now gives)) ⌝ }
-    requires gains { ⌜ ((v : ℕ) → v < length (now gains) → reads (now gains) v ≡ let-off (day-in (struck .invoices)) (reads (now (struck .cents))) v) ⌝ }
-    requires gives { ⌜ ((v : ℕ) → v < length (now gives) → reads (now gives) v ≡ lets-off (day-in (struck .invoices)) (reads (now (struck .cents))) v) ⌝ }
-    ensures { λ r. ⌜ Evenness (day-in (struck .entry .invoices)) (reads (now (struck .entry .cents))) r ⌝ }
+    requires gains { ⌜ ((v : ℕ) → v < length (now gains) → reads (now gains) v ≡ let-off (day-in (struck .invoices)) (cents-in struck) v) ⌝ }
+    requires gives { ⌜ ((v : ℕ) → v < length (now gives) → reads (now gives) v ≡ lets-off (day-in (struck .invoices)) (cents-in struck) v) ⌝ }
+    ensures { λ r. ⌜ Evenness (day-in (struck .entry .invoices)) (cents-in (struck .entry)) r ⌝ }
 {
     let invoices = struck.invoices;
     for v in 0..invoices.firms {
@@ -43,7 +43,7 @@ fn first_apart(struck: Struck, gains: &[u64], gives: &[u64]) -> Option<u16>
 
 // The first firm that is not even, if there is one; where there is none, the cents are a set-off.
 pub fn first_uneven(struck: Struck) -> Option<u16>
-    ensures { λ r. ⌜ Evenness (day-in (struck .entry .invoices)) (reads (now (struck .entry .cents))) r ⌝ }
+    ensures { λ r. ⌜ Evenness (day-in (struck .entry .invoices)) (cents-in (struck .entry)) r ⌝ }
 {
     let mut gains = [0; PLACES];
     let mut gives = [0; PLACES];

@@ -3,14 +3,14 @@ ghost use mathlib.Core.Path.{_≡_};
 ghost use Prim.Native.Nat.{ℕ, _^_, _≤_, _<_};
 ghost use lib.ListN.{length};
 ghost use Rattle.day.specs.Bills.{reads, span, let-off, lets-off, total};
-ghost use Rattle.setoff.specs.Rows.{day-in};
+ghost use Rattle.setoff.specs.Rows.{day-in, cents-in};
 use crate::struck::Struck;
 
 // What is struck out of the invoices at which the firm stands in a row: in that of who owes, or in that of who is owed.
 fn share_of(struck: Struck, row: &[u16], firm: u16) -> u64
     requires { ⌜ length (now row) ≡ length (now (struck .cents)) ⌝ }
-    ensures owing { λ r. ⌜ (now (row .entry) ≡ now (struck .entry .invoices .from) → r ≡ let-off (day-in (struck .entry .invoices)) (reads (now (struck .entry .cents))) firm) ⌝ }
-    ensures owed { λ r. ⌜ (now (row .entry) ≡ now (struck .entry .invoices .to) → r ≡ lets-off (day-in (struck .entry .invoices)) (reads (now (struck .entry .cents))) firm) ⌝ }
+    ensures owing { λ r. ⌜ (now (row .entry) ≡ now (struck .entry .invoices .from) → r ≡ let-off (day-in (struck .entry .invoices)) (cents-in (struck .entry)) firm) ⌝ }
+    ensures owed { λ r. ⌜ (now (row .entry) ≡ now (struck .entry .invoices .to) → r ≡ lets-off (day-in (struck .entry .invoices)) (cents-in (struck .entry)) firm) ⌝ }
 {
     let mut sum = 0;
     for e in 0..row.len() {
@@ -23,14 +23,14 @@ fn share_of(struck: Struck, row: &[u16], firm: u16) -> u64
 
 // What the firm is let off, on the invoices that it owes.
 pub fn let_off(struck: Struck, firm: u16) -> u64
-    ensures { λ r. ⌜ r ≡ let-off (day-in (struck .entry .invoices)) (reads (now (struck .entry .cents))) firm ⌝ }
+    ensures { λ r. ⌜ r ≡ let-off (day-in (struck .entry .invoices)) (cents-in (struck .entry)) firm ⌝ }
 {
     share_of(struck, struck.invoices.from, firm)
 }
 
 // What the firm lets others off, on the invoices that are owed to it.
 pub fn lets_off(struck: Struck, firm: u16) -> u64
-    ensures { λ r. ⌜ r ≡ lets-off (day-in (struck .entry .invoices)) (reads (now (struck .entry .cents))) firm ⌝ }
+    ensures { λ r. ⌜ r ≡ lets-off (day-in (struck .entry .invoices)) (cents-in (struck .entry)) firm ⌝ }
 {
     share_of(struck, struck.invoices.to, firm)
 }
@@ -50,7 +50,7 @@ fn sum_of(row: &[u64]) -> u64
 
 // What is struck out in all.
 pub fn total(struck: Struck) -> u64
-    ensures { λ r. ⌜ r ≡ total (day-in (struck .entry .invoices)) (reads (now (struck .entry .cents))) ⌝ }
+    ensures { λ r. ⌜ r ≡ total (day-in (struck .entry .invoices)) (cents-in (struck .entry)) ⌝ }
 {
     sum_of(struck.cents)
 }
