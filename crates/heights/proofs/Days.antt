@@ -20,15 +20,7 @@ pub set-off : {d : Day} {s : ℕ → ℕ} → Circulation (network-of d) s → S
 unfolding let-off lets-off outflow inflow
 set-off even = record { within = even .within; even = even .even }
 
--- the day's words are the network's
-gain-is : (d : Day) (s : ℕ → ℕ) → gain (network-of d) s ≡ total d s
-unfolding gain
-gain-is d s = refl
-
-dual-is : (d : Day) (h : ℕ → ℕ) → dual (network-of d) h ≡ bound d h
-unfolding dual bound
-dual-is d h = refl
-
+-- by computation: a day's total and bound are the gain and the dual of its network
 greatest : {d : Day} {s : ℕ → ℕ} → Maximum (network-of d) s → Greatest d s
 unfolding gain
 greatest max = record { is = set-off (max .is); most = λ q set. max .most q (circulation set) }

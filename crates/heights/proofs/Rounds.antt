@@ -16,24 +16,30 @@ pub record State (S : Steps) (k i : ℕ) : Type 0 where
   pub last : ℕ → ℕ
   pub kept : Searched S k i num last
 
-pass : (S : Steps) (k i : ℕ) (st : State S k i) → (Open S i → Fitted S (st .num) i) → State S k (suc i)
-pass S k i st fitted = record { num = st .num; last = st .last; kept = passes S k i (st .num) (st .last) (st .kept) fitted }
+-- step i is open and would gain, or else it is passed over
+abbrev Gains : Steps → (ℕ → ℕ) → ℕ → Type 0
+Gains S num f = Open S f × (num (S .head f) + S .down f < num (S .tail f) + S .up f)
 
--- one step tried
-step : (S : Steps) (k i : ℕ) → State S k i → State S k (suc i)
-step S k i st = elim (cases-lt i (S .steps)) [
-  | inr past ↦ pass S k i st (λ o. absurd (omega (arith, o .0)))
-  | inl there ↦ elim (cases-lt (S .room i) (S .least)) [
-    | inl small ↦ pass S k i st (λ o. absurd (omega (arith, o .1)))
-    | inr enough ↦ elim (cases-lt (st .num (S .head i) + S .down i) (st .num (S .tail i) + S .up i)) [
-      | inr fitted ↦ pass S k i st (λ o. fitted)
-      | inl gain ↦ record {
-        num = put (st .num) (S .head i) ((st .num (S .tail i) + S .up i) - S .down i);
-        last = put (st .last) (S .head i) (suc i);
-        kept = raises S k i (st .num) (st .last) (st .kept) (there, enough) gain;
-      }
+tried : (S : Steps) (num : ℕ → ℕ) (i : ℕ) → Gains S num i ⊎ (Open S i → Fitted S num i)
+tried S num i = elim (cases-lt (num (S .head i) + S .down i) (num (S .tail i) + S .up i)) [
+  | inr fitted ↦ inr (λ o. fitted)
+  | inl gain ↦ elim (cases-lt i (S .steps)) [
+    | inr past ↦ inr (λ o. absurd (omega (arith, o .0)))
+    | inl there ↦ elim (cases-lt (S .room i) (S .least)) [
+      | inl small ↦ inr (λ o. absurd (omega (arith, o .1)))
+      | inr enough ↦ inl ((there, enough), gain)
     ]
   ]
+]
+
+step : (S : Steps) (k i : ℕ) → State S k i → State S k (suc i)
+step S k i st = elim (tried S (st .num) i) [
+  | inr fitted ↦ record { num = st .num; last = st .last; kept = passes S k i (st .num) (st .last) (st .kept) fitted }
+  | inl (there, gain) ↦ record {
+    num = put (st .num) (S .head i) ((st .num (S .tail i) + S .up i) - S .down i);
+    last = put (st .last) (S .head i) (suc i);
+    kept = raises S k i (st .num) (st .last) (st .kept) there gain;
+  }
 ]
 
 round : (S : Steps) (k i : ℕ) → State S k 0 → State S k i
@@ -59,28 +65,19 @@ begun S (suc k) =
     let st = round S (suc k) (S .steps) (begun S k) in
     record { num = st .num; last = st .last; kept = next-round S (suc k) (st .num) (st .last) (st .kept) }
 
--- whether an open step below i would gain
-unfitted : (S : Steps) (num : ℕ → ℕ) (i : ℕ) →
-    ((f : ℕ) × (Open S f) × (num (S .head f) + S .down f < num (S .tail f) + S .up f)) ⊎ ((f : ℕ) → f < i → Open S f → Fitted S num f)
-unfitted S num zero = inr (λ f l. absurd (omega arith))
-unfitted S num (suc i) = elim (unfitted S num i) [
-  | inl bad ↦ inl bad
-  | inr all ↦
-      let more : (Open S i → Fitted S num i) → (f : ℕ) → f < suc i → Open S f → Fitted S num f
-      = λ here f l o. elim (cases-eq f i) [
-        | inl same ↦ subst (λ g. Fitted S num g) (sym same) (here (subst (λ g. Open S g) same o))
-        | inr before ↦ all f (omega arith) o
-      ] in
-      elim (cases-lt (num (S .head i) + S .down i) (num (S .tail i) + S .up i)) [
-        | inr fitted ↦ inr (more (λ o. fitted))
-        | inl gain ↦ elim (cases-lt i (S .steps)) [
-          | inr past ↦ inr (more (λ o. absurd (omega (arith, o .0))))
-          | inl there ↦ elim (cases-lt (S .room i) (S .least)) [
-            | inl small ↦ inr (more (λ o. absurd (omega (arith, o .1))))
-            | inr enough ↦ inl (i, (there, enough), gain)
-          ]
-        ]
-      ]
+-- whether a step below i would gain
+gaining : (S : Steps) (num : ℕ → ℕ) (i : ℕ) → ((f : ℕ) × Gains S num f) ⊎ ((f : ℕ) → f < i → Open S f → Fitted S num f)
+gaining S num zero = inr (λ f l. absurd (omega arith))
+gaining S num (suc i) = elim (gaining S num i) [
+  | inl found ↦ inl found
+  | inr all ↦ elim (tried S num i) [
+    | inl gain ↦ inl (i, gain)
+    | inr here ↦ inr
+        (λ f l. elim (cases-eq f i) [
+          | inl same ↦ subst (λ g. Open S g → Fitted S num g) (sym same) here
+          | inr before ↦ all f (omega arith)
+        ])
+  ]
 ]
 
 -- as many rounds as there are nodes, and one, are enough
@@ -89,12 +86,11 @@ unfolding Search-ends
 search-ends S there =
     let n = S .nodes in
     let st = round S (suc n) (S .steps) (begun S n) in
-    elim (unfitted S (st .num) (S .steps)) [
+    elim (gaining S (st .num) (S .steps)) [
       | inr all ↦ fits (suc n) (S .steps) (st .num) (st .last) (st .kept) (λ f o. all f (o .0) o)
-      | inl bad ↦
-          let f = bad .0 in
+      | inl (f, (there-f, gain)) ↦
           let late : suc n ≤ st .kept .when (S .tail f)
-          = elim (st .kept .passed f (bad .1) (bad .1 .0)) [ inl fitted ↦ absurd (omega (arith, bad .2)) | inr late ↦ omega arith ] in
-          let ring = late-ring S there (suc n) (S .steps) (st .num) (st .last) (st .kept) (S .tail f) (there f (bad .1 .0)) (omega arith) in
-          rings (ring .0) (ring .1) (ring .2) (ring .3)
+          = elim (st .kept .passed f there-f (there-f .0)) [ inl fitted ↦ absurd (omega arith) | inr late ↦ omega arith ] in
+          let (m, u, at, ring) = late-ring S there (suc n) (S .steps) (st .num) (st .last) (st .kept) (S .tail f) (there f (there-f .0)) (omega arith) in
+          rings m u at ring
     ]

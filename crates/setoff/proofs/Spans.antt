@@ -47,11 +47,6 @@ unfolding span
 span-add f g zero = refl
 span-add f g (suc k) = let ih = span-add f g k in omega arith
 
-pub span-scale : (c : ℕ) (f : ℕ → ℕ) (k : ℕ) → span (λ e. c * f e) k ≡ c * span f k
-unfolding span
-span-scale c f zero = omega arith
-span-scale c f (suc k) = let ih = span-scale c f k in omega arith
-
 pub span-bound : (f : ℕ → ℕ) (b k : ℕ) → ((e : ℕ) → e < k → f e ≤ b) → span f k ≤ k * b
 unfolding span
 span-bound f b zero h = omega arith
