@@ -1,66 +1,46 @@
 -- Weak duality, and that a circulation meets the bound of potentials exactly where they fit it. Assumes nothing.
 use mathlib.Core.Bool.{Bool, true, false}
 use mathlib.Core.Logic.{inl, inr}
-use mathlib.Core.Path.{_≡_, _∙_, sym, ap}
+use mathlib.Core.Path.{_≡_, _∙_, ap}
 use Prim.Native.Nat.{ℕ, _+_, _*_, _-_, _≤_, _<_}
 use native.Mathlib.Nat.{mul-le-mul-left, mul-le-mul-right}
 use native.Mathlib.Omega.{arith}
-use Rattle.std.proofs.shelf.Tests.{cases-lt, cases-eq}
+use Rattle.std.proofs.shelf.Tests.{cases-lt}
 use Rattle.day.specs.Bills.{pick, span}
 use Rattle.setoff.proofs.Spans.{span-le, span-ext, span-add, span-tight, weigh}
 use Rattle.heights.specs.Network.{Network, outflow, inflow, Circulation, unit, gain, Maximum, dual, Fit}
 
--- one arc, with s of its capacity a flowing from potential y to x, its unit included
+-- one arc: s of its capacity a flows, x is the potential of its tail with its unit, y that of its head
+above : (s x y : ℕ) → y ≤ x → s * x ≡ s * y + s * (x - y)
+above s x y h = ap (λ z. s * z) (let e : x ≡ y + (x - y) = omega arith in e) ∙ omega arith
+
+below : (a x y : ℕ) → x ≤ y → a * (x - y) ≡ 0
+below a x y h = ap (λ z. a * z) (let e : x - y ≡ 0 = omega arith in e) ∙ omega arith
+
 part-le : (s a x y : ℕ) → s ≤ a → s * x ≤ s * y + a * (x - y)
 part-le s a x y h = elim (cases-lt x y) [
-  | inl below ↦ let m = mul-le-mul-left {m = x} {n = y} s (omega arith) in omega arith
-  | inr above ↦
-      let d = x - y in
-      let m = mul-le-mul-right {m = s} {n = a} d h in
-      let e : s * x ≡ s * y + s * d = ap (λ z. s * z) (let f : x ≡ y + d = omega arith in f) ∙ omega arith in
-      omega arith
+  | inl less ↦ omega (arith, mul-le-mul-left {m = x} {n = y} s (omega arith))
+  | inr more ↦ omega (arith, above s x y more, mul-le-mul-right {m = s} {n = a} (x - y) h)
 ]
 
 part-tight : (s a x y : ℕ) → s ≤ a → s * x ≡ s * y + a * (x - y) → (s < a → x ≤ y) × (0 < s → y ≤ x)
 part-tight s a x y h all = elim (cases-lt x y) [
-  | inl below ↦
-      let none : a * (x - y) ≡ 0 = ap (λ z. a * z) (let f : x - y ≡ 0 = omega arith in f) ∙ omega arith in
-      let m = mul-le-mul-left {m = x + 1} {n = y} s (omega arith) in
-      (λ l. omega arith, λ l. omega arith)
-  | inr above ↦
-      let d = x - y in
-      let e : s * x ≡ s * y + s * d = ap (λ z. s * z) (let f : x ≡ y + d = omega arith in f) ∙ omega arith in
-      (λ l. let m = mul-le-mul-right {m = s + 1} {n = a} d (omega arith) in omega arith, λ l. omega arith)
+  | inl less ↦ (λ l. omega arith, λ l. omega (arith, below a x y (omega arith), mul-le-mul-left {m = x + 1} {n = y} s (omega arith)))
+  | inr more ↦ (λ l. omega (arith, above s x y more, mul-le-mul-right {m = s + 1} {n = a} (x - y) (omega arith)), λ l. more)
 ]
 
 part-fit : (s a x y : ℕ) → s ≤ a → (s < a → x ≤ y) → (0 < s → y ≤ x) → s * x ≡ s * y + a * (x - y)
-part-fit s a x y h left used = elim (cases-eq s a) [
-  | inl all ↦ elim (cases-eq s 0) [
-    | inl none ↦
-        let p : s * x ≡ 0 = ap (λ z. z * x) none ∙ omega arith in
-        let q : s * y ≡ 0 = ap (λ z. z * y) none ∙ omega arith in
-        let r : a * (x - y) ≡ 0 = ap (λ z. z * (x - y)) (sym all ∙ none) ∙ omega arith in
-        omega arith
-    | inr some ↦
-        let above : y ≤ x = used (omega arith) in
-        let d = x - y in
-        let e : s * x ≡ s * y + s * d = ap (λ z. s * z) (let f : x ≡ y + d = omega arith in f) ∙ omega arith in
-        let g : s * d ≡ a * d = ap (λ z. z * d) all in
-        omega arith
+part-fit s a x y h left used = elim (cases-lt x y) [
+  | inl less ↦ elim (cases-lt 0 s) [
+    | inl some ↦ absurd (omega (arith, used some))
+    | inr none ↦
+        let zero′ : s ≡ 0 = omega arith in
+        omega (arith, below a x y (omega arith), ap (λ z. z * x) zero′, ap (λ z. z * y) zero′)
   ]
-  | inr part ↦
-      let below : x ≤ y = left (omega arith) in
-      let none : a * (x - y) ≡ 0 = ap (λ z. a * z) (let f : x - y ≡ 0 = omega arith in f) ∙ omega arith in
-      elim (cases-eq s 0) [
-        | inl zero′ ↦
-            let p : s * x ≡ 0 = ap (λ z. z * x) zero′ ∙ omega arith in
-            let q : s * y ≡ 0 = ap (λ z. z * y) zero′ ∙ omega arith in
-            omega arith
-        | inr some ↦
-            let same : x ≡ y = (let above = used (omega arith) in omega arith) in
-            let e : s * x ≡ s * y = ap (λ z. s * z) same in
-            omega arith
-      ]
+  | inr more ↦ elim (cases-lt s a) [
+    | inl part ↦ omega (arith, above s x y more, below s x y (left part), below a x y (left part))
+    | inr all ↦ omega (arith, above s x y more, ap (λ z. z * (x - y)) (let e : s ≡ a = omega arith in e))
+  ]
 ]
 
 module _ (N : Network) (s h : ℕ → ℕ) where

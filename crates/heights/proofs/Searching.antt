@@ -1,4 +1,4 @@
--- The search keeps what it promises: a step that raises a node, a step that is passed over, a round, all rounds. Assumes nothing.
+-- The search keeps what it promises: as it begins, at a step that is passed over, and at a step that raises a node. Assumes nothing.
 use mathlib.Core.Logic.{_≢_, inl, inr}
 use mathlib.Core.Path.{_≡_, _∙_, refl, sym, ap, subst}
 use Prim.Native.Nat.{ℕ, suc, _+_, _-_, _≤_, _<_}

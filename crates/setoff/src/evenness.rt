@@ -14,7 +14,8 @@ const PLACES: usize = MOST_FIRMS as usize;
 // Adds up, for each firm, what it gains by being let off and what it gives by letting others off.
 fn tally(struck: Struck, gains: &mut [u64], gives: &mut [u64])
     requires room { ⌜ (struck .invoices .firms ≤ length (now gains)) × (struck .invoices .firms ≤ length (now gives)) ⌝ }
-    requires clear { ⌜ ((v : ℕ) → (reads (now gains) v ≡ 0) × (reads (now gives) v ≡ 0)) ⌝ }
+    requires gains { ⌜ ((v : ℕ) → v < length (now gains) → reads (now gains) v ≡ 0) ⌝ }
+    requires gives { ⌜ ((v : ℕ) → v < length (now gives) → reads (now gives) v ≡ 0) ⌝ }
     ensures gains { λ _. ⌜ ((v : ℕ) → v < length (now (gains .exit)) → reads (now (gains .exit)) v ≡ let-off (day-in (struck .entry .invoices)) (cents-in (struck .entry)) v) ⌝ }
     ensures gives { λ _. ⌜ ((v : ℕ) → v < length (now (gives .exit)) → reads (now (gives .exit)) v ≡ lets-off (day-in (struck .entry .invoices)) (cents-in (struck .entry)) v) ⌝ }
 {

@@ -1,14 +1,16 @@
 // Sums over a day's invoices: what a firm is let off, what it lets others off, and what is struck out in all.
 ghost use mathlib.Core.Path.{_≡_};
 ghost use Prim.Native.Nat.{ℕ, _^_, _≤_, _<_};
+ghost use lib.Dec.{eqb};
 ghost use lib.ListN.{length};
-ghost use Rattle.day.specs.Bills.{reads, span, let-off, lets-off, total};
+ghost use Rattle.day.specs.Bills.{reads, pick, span, let-off, lets-off, total};
 ghost use Rattle.setoff.specs.Rows.{day-in, cents-in};
 use crate::struck::Struck;
 
-// What is struck out of the invoices at which the firm stands in a row: in that of who owes, or in that of who is owed.
+// What is struck out of the invoices at which the firm stands in a row, as in that of who owes and in that of who is owed.
 fn share_of(struck: Struck, row: &[u16], firm: u16) -> u64
     requires { ⌜ length (now row) ≡ length (now (struck .cents)) ⌝ }
+    ensures sum { λ r. ⌜ r ≡ span (λ e. pick (eqb (reads (now (row .entry)) e) firm) (cents-in (struck .entry) e) 0) (length (now (row .entry))) ⌝ }
     ensures owing { λ r. ⌜ (now (row .entry) ≡ now (struck .entry .invoices .from) → r ≡ let-off (day-in (struck .entry .invoices)) (cents-in (struck .entry)) firm) ⌝ }
     ensures owed { λ r. ⌜ (now (row .entry) ≡ now (struck .entry .invoices .to) → r ≡ lets-off (day-in (struck .entry .invoices)) (cents-in (struck .entry)) firm) ⌝ }
 {

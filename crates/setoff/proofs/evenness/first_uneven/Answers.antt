@@ -1,6 +1,8 @@
 -- The rows begin with zeros, and have a place for each firm.
-use Rattle.setoff.proofs.Tallies.{zeros}
+use lib.ListN.{getD-replicate}
 use Rattle.setoff.proofs.evenness.first_uneven.Needs as need
 
 pub tally-requires : need.tally-requires
-tally-requires c κs = record { room = (c .args .struck .invoices .«few_firms», c .args .struck .invoices .«few_firms»); clear = λ v. (zeros 512 v, zeros 512 v) }
+tally-requires c κs =
+    let few = c .args .struck .invoices .«few_firms» in
+    record { room = (few, few); gains = λ v h. getD-replicate 512 v 0 0 h; gives = λ v h. getD-replicate 512 v 0 0 h }

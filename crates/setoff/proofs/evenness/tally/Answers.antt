@@ -3,32 +3,28 @@ use mathlib.Core.Path.{_≡_, _∙_, ap}
 use native.Mathlib.Omega.{arith}
 use lib.ListN.{length}
 use Rattle.day.specs.Bills.{reads, let-off, lets-off}
-use Rattle.setoff.proofs.Portions.{share, share-fits}
-use Rattle.setoff.proofs.Tallies.{tallied-none, tallied-more}
+use Rattle.setoff.proofs.Portions.{share}
+use Rattle.setoff.proofs.Tallies.{tallied-none, tallied-more, tallied-fits}
 use Rattle.setoff.proofs.evenness.tally.Needs as need
 
 pub loop-e-holds : need.loop-e-holds
 loop-e-holds c =
     let cents = reads (c .args .struck .cents .now) in (
-      tallied-none (reads (c .args .struck .invoices .from .now)) cents _ (λ v. c .pre .clear v .0),
-      tallied-none (reads (c .args .struck .invoices .to .now)) cents _ (λ v. c .pre .clear v .1),
+      tallied-none (reads (c .args .struck .invoices .from .now)) cents _ (c .pre .gains),
+      tallied-none (reads (c .args .struck .invoices .to .now)) cents _ (c .pre .gives),
     )
 
 pub add-gains : need.add-gains
 add-gains c =
     let s = c .args .struck in
-    let from = reads (s .invoices .from .now) in
     let there = s .invoices .«from_there» (c .loop-e .e) (omega arith) in
-    let so-far = c .loop-e .inv .0 (from (c .loop-e .e)) (omega arith) in
-    omega (arith, share-fits s from (from (c .loop-e .e)) (c .loop-e .e) (omega arith))
+    omega (arith, tallied-fits s (reads (s .invoices .from .now)) (c .loop-e .gains) (c .loop-e .e) (omega arith) (omega arith) (c .loop-e .inv .0))
 
 pub add-gives : need.add-gives
 add-gives c =
     let s = c .args .struck in
-    let to = reads (s .invoices .to .now) in
     let there = s .invoices .«to_there» (c .loop-e .e) (omega arith) in
-    let so-far = c .loop-e .inv .1 (to (c .loop-e .e)) (omega arith) in
-    omega (arith, share-fits s to (to (c .loop-e .e)) (c .loop-e .e) (omega arith))
+    omega (arith, tallied-fits s (reads (s .invoices .to .now)) (c .loop-e .gives) (c .loop-e .e) (omega arith) (omega arith) (c .loop-e .inv .1))
 
 pub loop-e-again : need.loop-e-again
 loop-e-again c =

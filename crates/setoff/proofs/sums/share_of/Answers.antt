@@ -28,8 +28,10 @@ pub returns : need.returns
 unfolding let-off lets-off
 returns c =
     let s = c .args .struck in
-    let cents = reads (s .cents .now) in
-    let all : c .loop-e .e ≡ length (s .invoices .from .now) = omega (arith, s .«cents_each») in
-    let sum = c .loop-e .inv ∙ ap (share (reads (c .args .row .now)) cents (c .args .firm)) all in
-    let by = λ (row : List ℕ). share (reads row) cents (c .args .firm) (length (s .invoices .from .now)) in
-    record { owing = λ e. sum ∙ ap by e; owed = λ e. sum ∙ ap by e }
+    let by = λ (row : List ℕ) (k : ℕ). share (reads row) (reads (s .cents .now)) (c .args .firm) k in
+    let row = c .args .row .now in
+    let all : c .loop-e .e ≡ length row = omega arith in
+    let each : length row ≡ length (s .invoices .from .now) = omega (arith, s .«cents_each») in
+    let sum : c .loop-e .sum ≡ by row (length row) = c .loop-e .inv ∙ ap (by row) all in
+    let like = λ (other : List ℕ) (same : row ≡ other). sum ∙ ap (by row) each ∙ ap (λ (r : List ℕ). by r (length (s .invoices .from .now))) same in
+    record { sum = sum; owing = like (s .invoices .from .now); owed = like (s .invoices .to .now) }
