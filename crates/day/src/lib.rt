@@ -1,4 +1,6 @@
 // A clearing day: its invoices, how they are read from a file, and what turns a day away.
+#![tactic(auto)]
+
 mod checks;
 mod invoices;
 mod layout;

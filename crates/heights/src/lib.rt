@@ -1,4 +1,6 @@
 // Heights of the firms, the bound that they give, and the theorems of the clearing day.
+#![tactic(auto)]
+
 mod bounds;
 mod fitting;
 mod rejections;

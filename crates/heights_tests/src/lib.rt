@@ -1,4 +1,5 @@
 // Tests of set-offs and heights: the worked days, the edges of each rule, and days at random.
+#![tactic(auto)]
 #[cfg(test)]
 mod edges;
 #[cfg(test)]

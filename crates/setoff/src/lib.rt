@@ -1,4 +1,6 @@
 // Set-offs over a day's invoices: what each firm is let off and lets off, the total, and whether all firms are even.
+#![tactic(auto)]
+
 mod evenness;
 mod invoices;
 mod misfits;

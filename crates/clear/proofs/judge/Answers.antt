@@ -10,8 +10,8 @@ pub returns : goal.returns
 returns c =
     let b = c.args.file.now in
     let same =
-    room_ample b c.whole-invoices-invoices.result c.deref-mut.result.now c.deref-mut-2.result.now c.deref-mut-3.result.now
-    c.whole-invoices-invoices.ensures (search rules) (search rules) (search rules) in
+    room_ample b c.whole_invoices-invoices.result c.deref_mut.result.now c.deref_mut-2.result.now c.deref_mut-3.result.now
+    c.whole_invoices-invoices.ensures (search rules) (search rules) (search rules) in
     record {
       answer = subst (λ room. c.read.result ≡ answered (refusal_in room b) (size_in b)) same c.read.ensures.answer;
       enough = λ k e. never_short b k (subst (λ room. First room b (Memory k)) same ((c.read.ensures.refused.exactly (Memory k)).0 e));

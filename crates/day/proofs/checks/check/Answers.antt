@@ -3,21 +3,21 @@ use Rattle.std.proofs.Common.{rules}
 use Rattle.day.specs.Reading.{refusal_in}
 use Rattle.day.proofs.checks.check.Goals as goal
 
-pub returns-in-default : goal.returns-in-default
+pub returns-in_default : goal.returns-in_default
 unfolding refusal_in
-returns-in-default c = search rules
+returns-in_default c = search rules
 
-pub returns-in-err-lent : goal.returns-in-err-lent
+pub returns-in_err-lent : goal.returns-in_err-lent
 unfolding refusal_in
-returns-in-err-lent c = search rules
+returns-in_err-lent c = search rules
 
-pub returns-in-default-invoices-of : goal.returns-in-default-invoices-of
+pub returns-in_default-invoices_of : goal.returns-in_default-invoices_of
 unfolding refusal_in
-returns-in-default-invoices-of c = search rules
+returns-in_default-invoices_of c = search rules
 
-pub returns-in-err-invoices : goal.returns-in-err-invoices
+pub returns-in_err-invoices : goal.returns-in_err-invoices
 unfolding refusal_in
-returns-in-err-invoices c = search rules
+returns-in_err-invoices c = search rules
 
 pub returns : goal.returns
 unfolding refusal_in

@@ -6,14 +6,14 @@ use Rattle.day.specs.Reading.{answered}
 use Rattle.day.proofs.Firsts.{by_rule_some, by_rule_none, true_from_none}
 use Rattle.day.proofs.checks.each_keeps.Goals as goal
 
-pub returns-in-default : goal.returns-in-default
-returns-in-default c =
+pub returns-in_default : goal.returns-in_default
+returns-in_default c =
     let broke : breaks c.args.rule c.args.firms (invoice_at c.args.file.now c.loop-e.e) ≡ true
-    = ap (breaks c.args.rule c.args.firms) (sym c.invoice_at.ensures) ∙ true_from_none _ _ _ c.in-default.is c.kept.ensures in
+    = ap (breaks c.args.rule c.args.firms) (sym c.invoice_at.ensures) ∙ true_from_none _ _ _ c.in_default.is c.kept.ensures in
     let h = by_rule_some c.args.rule c.args.firms c.args.file.now c.loop-e.e (omega arith) c.loop-e.invariant broke in
     ap Err c.refusal.ensures ∙ sym (ap (λ o. answered o (whole c.args.file.now)) h)
 
 pub returns : goal.returns
 returns c =
     let h = by_rule_none c.args.rule c.args.firms c.args.file.now (λ k l. c.loop-e.invariant k (omega arith)) in
-    ap Ok c.whole-invoices-invoices.ensures ∙ sym (ap (λ o. answered o (whole c.args.file.now)) h)
+    ap Ok c.whole_invoices-invoices.ensures ∙ sym (ap (λ o. answered o (whole c.args.file.now)) h)

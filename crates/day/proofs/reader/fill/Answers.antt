@@ -8,9 +8,9 @@ use Rattle.day.proofs.reader.fill.Goals as goal
 pub loop-e-preserved : goal.loop-e-preserved
 loop-e-preserved c =
     let file = c.args.file.now in (
-      wrote (λ e. (invoice_at file e).from) c.loop-e.e c.args.from.now _ _ (omega arith) c.loop-e.invariant.0 (ap (λ i. i.from) c.invoice-at-invoice.ensures),
-      wrote (λ e. (invoice_at file e).to) c.loop-e.e c.args.to.now _ _ (omega arith) c.loop-e.invariant.1 (ap (λ i. i.to) c.invoice-at-invoice.ensures),
-      wrote (λ e. (invoice_at file e).amount) c.loop-e.e c.args.amount.now _ _ (omega arith) c.loop-e.invariant.2 (ap (λ i. i.amount) c.invoice-at-invoice.ensures),
+      wrote (λ e. (invoice_at file e).from) c.loop-e.e c.args.from.now _ _ (omega arith) c.loop-e.invariant.0 (ap (λ i. i.from) c.invoice_at-invoice.ensures),
+      wrote (λ e. (invoice_at file e).to) c.loop-e.e c.args.to.now _ _ (omega arith) c.loop-e.invariant.1 (ap (λ i. i.to) c.invoice_at-invoice.ensures),
+      wrote (λ e. (invoice_at file e).amount) c.loop-e.e c.args.amount.now _ _ (omega arith) c.loop-e.invariant.2 (ap (λ i. i.amount) c.invoice_at-invoice.ensures),
     )
 
 pub returns : goal.returns

@@ -3,9 +3,9 @@ use Rattle.std.proofs.Common.{refl}
 use Rattle.std.proofs.lemmas.Result.{err_from_is_err_and}
 use Rattle.day.proofs.reader.read.Goals as goal
 
-pub returns-in-err-size : goal.returns-in-err-size
-returns-in-err-size c =
-    let p = err_from_is_err_and c.from-residual.result c.from-residual.ensures.1 in
-    let judged = c.in-err-size.ensures in
+pub returns-in_err-size : goal.returns-in_err-size
+returns-in_err-size c =
+    let p = err_from_is_err_and c.from_residual.result c.from_residual.ensures.1 in
+    let judged = c.in_err-size.ensures in
     rw (p.1, p.2)
     record { answer = judged.answer; refused = judged.refused; taken = tt; from = refl; to = refl; amount = refl }

@@ -9,6 +9,6 @@ returns c =
     record {
       fits = search rules;
       bytes = three_parts _ _ _ _ _ _ _ (two_bytes c.args.invoice.from) (two_bytes c.args.invoice.to) (eight_bytes c.args.invoice.amount)
-          c.in-ok-extend-from-slice.ensures.items c.in-ok-extend-from-slice-2.ensures.items
-          c.in-ok-extend-from-slice-3.ensures.items c.to-le-bytes.ensures c.to-le-bytes-2.ensures c.to-le-bytes-3.ensures;
+          c.in_ok-extend_from_slice.ensures.items c.in_ok-extend_from_slice-2.ensures.items
+          c.in_ok-extend_from_slice-3.ensures.items c.to_le_bytes.ensures c.to_le_bytes-2.ensures c.to_le_bytes-3.ensures;
     }

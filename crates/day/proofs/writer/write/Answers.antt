@@ -12,8 +12,8 @@ pub loop-invoice-preserved : goal.loop-invoice-preserved
 loop-invoice-preserved c =
     let is = c.args.invoices.now in
     let k = c.loop-invoice.invoice-index in (
-      written_more c.args.firms is k (vec_items c.loop-invoice.file) (vec_items c.push-invoice.new.file) (omega arith) c.loop-invoice.invariant.0 c.in-ok-push-invoice.ensures.bytes,
-      All-more Fits is k blank (omega arith) c.loop-invoice.invariant.1 c.in-ok-push-invoice.ensures.fits,
+      written_more c.args.firms is k (vec_items c.loop-invoice.file) (vec_items c.push_invoice.new.file) (omega arith) c.loop-invoice.invariant.0 c.in_ok-push_invoice.ensures.bytes,
+      All-more Fits is k blank (omega arith) c.loop-invoice.invariant.1 c.in_ok-push_invoice.ensures.fits,
     )
 
 pub returns : goal.returns

@@ -6,17 +6,17 @@ use Rattle.greatest.proofs.Counted.{circulation, set_off}
 use Rattle.greatest.proofs.Settled.{settles}
 use Rattle.greatest.proofs.settling.settle.Goals as goal
 
-pub climb-in-scales-requires : goal.climb-in-scales-requires
-climb-in-scales-requires c =
+pub climb_in_scales-requires : goal.climb_in_scales-requires
+climb_in_scales-requires c =
     record {
       rows = record { flow_each = c.requires.rows.struck_each; number_each = c.requires.rows.number_each; last_each = c.requires.rows.last_each; ring_each = c.requires.rows.ring_each };
       even = circulation (day_in c.args.invoices) _ _ (reads c.args.struck.now) c.requires.set;
     }
 
-pub total-of-requires : goal.total-of-requires
-total-of-requires c =
+pub total_of-requires : goal.total_of-requires
+total_of-requires c =
     record {
-      set = set_off (day_in c.args.invoices) _ _ (reads c.climb-in-scales.new.flow) c.climb-in-scales.ensures.even;
+      set = set_off (day_in c.args.invoices) _ _ (reads c.climb_in_scales.new.flow) c.climb_in_scales.ensures.even;
       each = omega (arith, c.requires.rows.struck_each);
     }
 
@@ -24,8 +24,8 @@ pub returns : goal.returns
 returns c =
     record {
       settled =
-          settles (day_in c.args.invoices) _ _ c.args.struck.now c.climb-in-scales.new.flow c.write-heights.new.height c.climb-in-scales.new.number
-          c.climb-in-scales.new.last c.total-of.result c.climb-in-scales.ensures c.write-heights.ensures c.total-of.ensures;
+          settles (day_in c.args.invoices) _ _ c.args.struck.now c.climb_in_scales.new.flow c.write_heights.new.height c.climb_in_scales.new.number
+          c.climb_in_scales.new.last c.total_of.result c.climb_in_scales.ensures c.write_heights.ensures c.total_of.ensures;
       wiped = record {
         number_clear = c.fill.ensures.after (λ y same. same) ∙ ap (λ n. replicate n (pos 0)) (omega (arith, c.requires.rows.number_each));
         last_clear = c.fill-2.ensures.after (λ y same. same) ∙ ap (λ n. replicate n 0) (omega (arith, c.requires.rows.last_each));

@@ -27,13 +27,13 @@ small c =
     (counted_small (get_or i.amount.now e 0) (reads c.args.heights.now from) (reads c.args.heights.now (get_or i.to.now e 0)) (i.few_cents e there)
     (omega (arith, i.few_firms)))
 
-pub overflow-mul-sum : goal.overflow-mul-sum
+pub overflow_mul-sum : goal.overflow_mul-sum
 unfolding product
-overflow-mul-sum c = omega (arith, small c)
+overflow_mul-sum c = omega (arith, small c)
 
-pub overflow-add-sum : goal.overflow-add-sum
+pub overflow_add-sum : goal.overflow_add-sum
 unfolding product
-overflow-add-sum c = omega (arith, small c, c.args.invoices.few_invoices)
+overflow_add-sum c = omega (arith, small c, c.args.invoices.few_invoices)
 
 pub loop-e-preserved : goal.loop-e-preserved
 unfolding product

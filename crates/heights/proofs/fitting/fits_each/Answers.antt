@@ -5,8 +5,8 @@ use Rattle.setoff.specs.Rows.{day_in}
 use Rattle.heights.proofs.Counted.{judges}
 use Rattle.heights.proofs.fitting.fits_each.Goals as goal
 
-pub returns-then-not-fits-at : goal.returns-then-not-fits-at
-returns-then-not-fits-at c =
+pub returns-then-not-fits_at : goal.returns-then-not-fits_at
+returns-then-not-fits_at c =
     judges (day_in c.args.struck.invoices) (reads c.args.struck.cents.now) (reads c.args.heights.now) false (search rules)
 
 pub returns : goal.returns

@@ -13,14 +13,14 @@ returns-then-at-start c =
     record {
       few = omega (arith, room tail last c.args.start c.ring.m c.ring.at c.ring.ring c.ring.invariant.1 _ c.requires.returns);
       closed = collects_all tail last c.args.start c.ring.m c.ring.at c.ring.ring c.ring.invariant.1 _ c.requires.returns
-          (omega arith) c.from.result c.tail-of-at.result c.from.ensures c.tail-of-at.ensures.node c.if-at-start.true;
+          (omega arith) c.from.result c.tail_of-at.result c.from.ensures c.tail_of-at.ensures.node c.if-at-start.true;
     }
 
 pub ring-preserved : goal.ring-preserved
 ring-preserved c =
     let tail = tail_of (network_in c.args.network) in
     let last = reads c.args.last.now in (
-      c.tail-of-at.ensures.there,
+      c.tail_of-at.ensures.there,
       collects_more tail last c.args.start c.ring.m c.ring.at c.ring.ring c.ring.invariant.1 _ c.requires.returns
-          (omega arith) c.from.result c.tail-of-at.result c.from.ensures c.tail-of-at.ensures.node c.if-at-start.false,
+          (omega arith) c.from.result c.tail_of-at.result c.from.ensures c.tail_of-at.ensures.node c.if-at-start.false,
     )

@@ -8,9 +8,9 @@ use Rattle.rings.proofs.chains.follow.Goals as goal
 
 pub loop-passed-preserved : goal.loop-passed-preserved
 loop-passed-preserved c = (
-  c.tail-of-at.ensures.there,
+  c.tail_of-at.ensures.there,
   leads_more c.args.network.nodes (tail_of (network_in c.args.network)) (reads c.args.last.now) c.args.from c.loop-passed.passed c.loop-passed.at
-      c.tail-of-at.result c.loop-passed.invariant.1 c.if-step-eq0.false c.tail-of-at.ensures.node c.tail-of-at.ensures.there,
+      c.tail_of-at.result c.loop-passed.invariant.1 c.if-step-eq0.false c.tail_of-at.ensures.node c.tail_of-at.ensures.there,
 )
 
 pub collect-requires : goal.collect-requires

@@ -16,11 +16,11 @@ pub push-requires : goal.push-requires
 push-requires c =
     let N = network_in c.args.network in
     let s = reads c.args.flow.now in
-    let rows : RowsFit N c.args.flow.now c.args.number.now c.args.last.now c.args.ring.now = c.in-ok-check.ensures in
+    let rows : RowsFit N c.args.flow.now c.args.number.now c.args.last.now c.args.ring.now = c.in_ok-check.ensures in
     let (few, (u, ring)) = c.in-Some.ensures in
     let at = reads c.search.new.ring in
-    let cents = c.smallest-room-cents.result in
-    let smallest = c.smallest-room-cents.ensures in
+    let cents = c.smallest_room-cents.result in
+    let smallest = c.smallest_room-cents.ensures in
     let enough : 1 ≤ cents = omega (arith, c.max.ensures, smallest.one.2, (ring.there smallest.one.0 smallest.one.1).1) in
     record {
       room = omega (arith, rows.ring_each);
@@ -33,12 +33,12 @@ unfolding RingGains
 returns c =
     let N = network_in c.args.network in
     let s = reads c.args.flow.now in
-    let rows : RowsFit N c.args.flow.now c.args.number.now c.args.last.now c.args.ring.now = c.in-ok-check.ensures in
+    let rows : RowsFit N c.args.flow.now c.args.number.now c.args.last.now c.args.ring.now = c.in_ok-check.ensures in
     let (few, (u, found)) = c.in-Some.ensures in
     let at = reads c.search.new.ring in
     let m = c.in-Some.m in
-    let cents = c.smallest-room-cents.result in
-    let smallest = c.smallest-room-cents.ensures in
+    let cents = c.smallest_room-cents.result in
+    let smallest = c.smallest_room-cents.ensures in
     let least : c.max.result ≡ max c.args.least 1 = c.max.ensures in
     let ring = subst (λ least. Gaining (residual N s least) m u at) least found in
     let gains = λ (even : Circulation N s). ring_gains N s cents m u at even (narrowed N s c.max.result m cents u at found smallest.each) in (

@@ -16,7 +16,7 @@ use Rattle.rings.proofs.Rounds.{lasts_there, high_goes_on, closed_gains}
 use Rattle.rings.proofs.Sweeps.{Swept, Sweeping, swept_none, swept_more, sweeping_none, sweeping_kept, sweeping_more, sweeping_raised, tried_exact, going_there, finds}
 use Rattle.rings.proofs.Units.{up_small, heads_there, opposite}
 use Rattle.rings.proofs.search.search.Goals as goal
-use Rattle.rings.proofs.search.search.Goals.{in-Some+else-number-v, in-default, in-Some-raised+in-default-follow, in-default-raised}
+use Rattle.rings.proofs.search.search.Goals.{in-Some+else-number-v, in_default, in-Some-raised+in_default-follow, in_default-raised}
 
 pub rounds-init : goal.rounds-init
 rounds-init c = (
@@ -32,8 +32,8 @@ arcs-init c = (
   c.rounds.invariant.1,
 )
 
-pub try-arc-requires : goal.try-arc-requires
-try-arc-requires c = record { there = omega arith; flow = c.requires.flow; number = c.arcs.invariant.0.numbers; last = c.arcs.invariant.0.each }
+pub try_arc-requires : goal.try_arc-requires
+try_arc-requires c = record { there = omega arith; flow = c.requires.flow; number = c.arcs.invariant.0.numbers; last = c.arcs.invariant.0.each }
 
 pub follow-found-requires : goal.follow-found-requires
 follow-found-requires c =
@@ -43,13 +43,13 @@ follow-found-requires c =
     let round = c.rounds.round in
     let e = c.arcs.e in
     let tried = c.in-Some.ensures in
-    let kept = sweeping_raised S round c.arcs.number c.arcs.new c.try-arc.new.number c.try-arc.new.last e (λ f l. heads_there N s f l)
+    let kept = sweeping_raised S round c.arcs.number c.arcs.new c.try_arc.new.number c.try_arc.new.last e (λ f l. heads_there N s f l)
     c.in-Some.v c.arcs.raised (opposite N s c.args.least e) tried c.arcs.invariant.0 in
     record {
-      there = (tried_exact S round c.arcs.number c.arcs.new c.try-arc.new.number c.try-arc.new.last e (λ f l. heads_there N s f l)
+      there = (tried_exact S round c.arcs.number c.arcs.new c.try_arc.new.number c.try_arc.new.last e (λ f l. heads_there N s f l)
           c.in-Some.v c.arcs.invariant.0.numbers tried).0;
       last = omega arith;
-      steps = λ v l. lasts_there S (round + 1) (2 * (e + 1)) (levels c.try-arc.new.number) (reads c.try-arc.new.last) kept v;
+      steps = λ v l. lasts_there S (round + 1) (2 * (e + 1)) (levels c.try_arc.new.number) (reads c.try_arc.new.last) kept v;
       ring = omega arith;
     }
 
@@ -69,11 +69,11 @@ arcs-preserved c =
     let e = c.arcs.e in
     let heads = λ (f : ℕ) (l : f < 2 * N.arcs). heads_there N s f l in
     let num = c.arcs.number in
-    let num' = c.try-arc.new.number in
+    let num' = c.try_arc.new.number in
     let last = c.arcs.new in
-    let last' = c.try-arc.new.last in
+    let last' = c.try_arc.new.last in
     let before = c.arcs.raised in (
-      elim c.match-try-arc.branch [
+      elim c.match-try_arc.branch [
         | in-Some+else-number-v w ↦
             let tried = w.in-Some.ensures in
             let exact = tried_exact S round num last num' last' e heads w.in-Some.v c.arcs.invariant.0.numbers tried in
@@ -86,8 +86,8 @@ arcs-preserved c =
             (lower (get_or num' w.in-Some.v (pos 0)) (levels num' w.in-Some.v) c.args.network.nodes w.from.result exact.1 w.from.ensures fits
             (omega (arith, c.args.network.few_nodes)) w.if-number-v.false))
             c.arcs.invariant.0)
-        | in-default w ↦
-            let tried : ArcTried S e num num' last last' None = w.in-default.ensures in
+        | in_default w ↦
+            let tried : ArcTried S e num num' last last' None = w.in_default.ensures in
             subst (λ r. Sweeping S round (e + 1) num' last' r) (sym w.raised-is)
             (sweeping_more S round num last num' last' e heads None before (opposite N s c.args.least e) tried
             (λ v same. absurd (let z : ◌≡◌ {A = ℕ} 0 1 = cc in omega arith)) c.arcs.invariant.0)
@@ -119,11 +119,11 @@ rounds-preserved c =
     let last = reads c.arcs.new in (
       swept_more S c.rounds.round c.arcs.number c.arcs.new e c.arcs.raised (omega arith) (λ f l. tails_there N s f l)
           (λ v same. elim c.match-raised.branch [
-            | in-Some-raised+in-default-follow w ↦
+            | in-Some-raised+in_default-follow w ↦
                 let is = w.in-Some-raised.is in
                 let here : w.in-Some-raised.v ≡ v = cc in
-                subst (λ u. Ends S.nodes S.tail last u) here w.in-default-follow.ensures
-            | in-default-raised w ↦ absurd (w.in-default-raised.not-Some v same)
+                subst (λ u. Ends S.nodes S.tail last u) here w.in_default-follow.ensures
+            | in_default-raised w ↦ absurd (w.in_default-raised.not-Some v same)
           ])
           c.arcs.invariant.0,
       c.arcs.invariant.1,
@@ -144,8 +144,8 @@ returns-then-number-v c =
     let round = c.rounds.round in
     let e = c.arcs.e in
     let v = c.in-Some.v in
-    let num' = c.try-arc.new.number in
-    let last' = c.try-arc.new.last in
+    let num' = c.try_arc.new.number in
+    let last' = c.try_arc.new.last in
     let tried = c.in-Some.ensures in
     let heads = λ (f : ℕ) (l : f < 2 * N.arcs). heads_there N s f l in
     let kept = sweeping_raised S round c.arcs.number c.arcs.new num' last' e heads v c.arcs.raised (opposite N s c.args.least e) tried c.arcs.invariant.0 in

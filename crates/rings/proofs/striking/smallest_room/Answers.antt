@@ -28,7 +28,7 @@ loop-j-preserved c =
     let at = reads c.args.ring.now in
     elim c.if-room-smallest.branch [
       | then-room-smallest w ↦ subst (λ x. Smallest room at (c.loop-j.j + 1) x) (sym w.smallest-is)
-          (smaller room at c.loop-j.j c.loop-j.smallest c.step-at-room.result.room c.loop-j.invariant c.step-at-room.ensures.room w.if-room-smallest.true)
+          (smaller room at c.loop-j.j c.loop-j.smallest c.step_at-room.result.room c.loop-j.invariant c.step_at-room.ensures.room w.if-room-smallest.true)
       | else-room-smallest w ↦ subst (λ x. Smallest room at (c.loop-j.j + 1) x) (sym w.smallest-is)
-          (no_smaller room at c.loop-j.j c.loop-j.smallest c.step-at-room.result.room c.loop-j.invariant c.step-at-room.ensures.room w.if-room-smallest.false)
+          (no_smaller room at c.loop-j.j c.loop-j.smallest c.step_at-room.result.room c.loop-j.invariant c.step_at-room.ensures.room w.if-room-smallest.false)
     ]

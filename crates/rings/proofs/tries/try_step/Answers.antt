@@ -24,8 +24,8 @@ exact a g x up down e low u d gain some = omega (arith, ints)
 pub returns : goal.returns
 returns c =
     let num = c.args.number.now in
-    let step = c.step-at-step.result in
-    let is = c.step-at-step.ensures in
+    let step = c.step_at-step.result in
+    let is = c.step_at-step.ensures in
     let N = network_in c.args.network in
     let s = reads c.args.flow.now in
     let f = c.args.f in

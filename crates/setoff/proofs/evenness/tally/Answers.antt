@@ -12,14 +12,14 @@ loop-e-init c =
       tallied_none (reads c.args.struck.invoices.to.now) cents _ c.requires.gives,
     )
 
-pub overflow-add-gains : goal.overflow-add-gains
-overflow-add-gains c =
+pub overflow_add-gains : goal.overflow_add-gains
+overflow_add-gains c =
     let s = c.args.struck in
     let there = s.invoices.from_there c.loop-e.e (omega arith) in
     omega (arith, tallied_fits s (reads s.invoices.from.now) c.loop-e.gains c.loop-e.e (omega arith) (omega arith) c.loop-e.invariant.0)
 
-pub overflow-add-gives : goal.overflow-add-gives
-overflow-add-gives c =
+pub overflow_add-gives : goal.overflow_add-gives
+overflow_add-gives c =
     let s = c.args.struck in
     let there = s.invoices.to_there c.loop-e.e (omega arith) in
     omega (arith, tallied_fits s (reads s.invoices.to.now) c.loop-e.gives c.loop-e.e (omega arith) (omega arith) c.loop-e.invariant.1)

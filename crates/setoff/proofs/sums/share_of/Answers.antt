@@ -8,8 +8,8 @@ use Rattle.setoff.proofs.sums.share_of.Goals.{then-row-e, else-row-e}
 pub loop-e-init : goal.loop-e-init
 loop-e-init c = sym (share_none (reads c.args.row.now) (reads c.args.struck.cents.now) c.args.firm)
 
-pub overflow-add-sum : goal.overflow-add-sum
-overflow-add-sum c = omega (arith, share_fits c.args.struck (reads c.args.row.now) c.args.firm c.loop-e.e (omega arith))
+pub overflow_add-sum : goal.overflow_add-sum
+overflow_add-sum c = omega (arith, share_fits c.args.struck (reads c.args.row.now) c.args.firm c.loop-e.e (omega arith))
 
 pub loop-e-preserved : goal.loop-e-preserved
 loop-e-preserved c =

@@ -7,8 +7,8 @@ use Rattle.setoff.proofs.sums.sum_of.Goals as goal
 pub loop-cents-init : goal.loop-cents-init
 loop-cents-init c = sym (span-zero (reads c.args.row.now))
 
-pub overflow-add-sum : goal.overflow-add-sum
-overflow-add-sum c =
+pub overflow_add-sum : goal.overflow_add-sum
+overflow_add-sum c =
     let row = reads c.args.row.now in
     let k = c.loop-cents.cents-index in
     omega (arith, c.requires.small k (omega arith), span_bound row (10 ^ 12) k (λ e l. c.requires.small e (omega arith)), c.requires.few)
