@@ -4,8 +4,12 @@ use Rattle.std.proofs.lemmas.Bool.{cases_eq, cases_lt}
 use Rattle.day.specs.Bills.{span}
 use Rattle.setoff.proofs.Spans.{span-le, span-add, span_tight, span_shift, span_at}
 use Rattle.heights.specs.Residual.{Steps, AllFitted, Gaining}
-use Rattle.heights.specs.Search.{Link, Searched, back}
+use Rattle.heights.specs.Search.{Link, Searched, back as back_along}
 use Rattle.heights.proofs.Repeats.{Repeat, repeats}
+
+-- the node that j last steps lead back to
+abbrev pub back : Steps → (ℕ → ℕ) → ℕ → ℕ → ℕ
+back S last = back_along S.tail last
 
 -- a sum over the nodes of a ring is the same one node further on
 around : (g u : ℕ → ℕ) (m : ℕ) → u m ≡ u 0 → span (λ j. g (u (suc j))) m ≡ span (λ j. g (u j)) m
@@ -44,20 +48,20 @@ fitted_no_ring S h m u at fitted ring =
 module _ (S : Steps) (tails_there : (f : ℕ) → f < S.steps → S.tail f < S.nodes) (k i : ℕ) (num last : ℕ → ℕ) (at : Searched S k i num last) where
   -- the first j nodes of the chain from v all have a last step
   abbrev pub Long : ℕ → ℕ → Type 0
-  Long v j = (t : ℕ) → t < j → last (back S.tail last v t) ≢ 0
+  Long v j = (t : ℕ) → t < j → last (back S last v t) ≢ 0
 
-  pub linked : (v t : ℕ) → last (back S.tail last v t) ≢ 0 → Link S num at.when at.rank (back S.tail last v t) (last (back S.tail last v t) - 1)
-  linked v t some = at.link (back S.tail last v t) (last (back S.tail last v t) - 1) (omega arith)
+  pub linked : (v t : ℕ) → last (back S last v t) ≢ 0 → Link S num at.when at.rank (back S last v t) (last (back S last v t) - 1)
+  linked v t some = at.link (back S last v t) (last (back S last v t) - 1) (omega arith)
 
-  pub back_there : (v j : ℕ) → v < S.nodes → Long v j → back S.tail last v j < S.nodes
+  pub back_there : (v j : ℕ) → v < S.nodes → Long v j → back S last v j < S.nodes
   back_there v zero h long = h
-  back_there v (suc j) h long = tails_there (last (back S.tail last v j) - 1) (linked v j (long j (omega arith))).there.0
+  back_there v (suc j) h long = tails_there (last (back S last v j) - 1) (linked v j (long j (omega arith))).there.0
 
   -- a chain of as many last steps as there are nodes closes
   pub long_ring : (v : ℕ) → v < S.nodes → Long v S.nodes → (m : ℕ) × (u : ℕ → ℕ) × (steps : ℕ → ℕ) × Gaining S m u steps
   long_ring v h long =
       let n = S.nodes in
-      let b : ℕ → ℕ = back S.tail last v in
+      let b : ℕ → ℕ = back S last v in
       let r : Repeat b (suc n) = repeats b (suc n) n (λ j l. back_there v j h (λ t m. long t (omega arith))) (omega arith) in
       let from = r.first in
       let m = r.again - from in
@@ -84,41 +88,41 @@ module _ (S : Steps) (tails_there : (f : ℕ) → f < S.steps → S.tail f < S.n
       )
 
   -- a node that was raised in round n or later has such a chain behind it
-  pub when_back : (v j : ℕ) → j ≤ at.when v → (at.when v ≤ at.when (back S.tail last v j) + j) × Long v j
+  pub when_back : (v j : ℕ) → j ≤ at.when v → (at.when v ≤ at.when (back S last v j) + j) × Long v j
   when_back v zero h = (omega arith, λ t l. absurd (omega arith))
   when_back v (suc j) h =
       let ih = when_back v j (omega arith) in
-      let some : last (back S.tail last v j) ≢ 0 = λ e. (let none = (at.root (back S.tail last v j) e).1 in omega (arith, ih.0)) in (
+      let some : last (back S last v j) ≢ 0 = λ e. (let none = (at.root (back S last v j) e).1 in omega (arith, ih.0)) in (
         omega (arith, ih.0, (linked v j some).soon),
-        λ t l. elim (cases_eq t j) [ inl here ↦ λ e. some (ap (λ z. last (back S.tail last v z)) (sym here) ∙ e) | inr before ↦ ih.1 t (omega arith) ],
+        λ t l. elim (cases_eq t j) [ inl here ↦ λ e. some (ap (λ z. last (back S last v z)) (sym here) ∙ e) | inr before ↦ ih.1 t (omega arith) ],
       )
 
   pub late_ring : (v : ℕ) → v < S.nodes → S.nodes ≤ at.when v → (m : ℕ) × (u : ℕ → ℕ) × (steps : ℕ → ℕ) × Gaining S m u steps
   late_ring v h late = long_ring v h (when_back v S.nodes late).1
 
   -- the chain from v ends at a node without a last step, or is that long
-  ends_or_long : (v j : ℕ) → ((t : ℕ) × (t < j) × (last (back S.tail last v t) ≡ 0) × Long v t) ⊎ Long v j
+  ends_or_long : (v j : ℕ) → ((t : ℕ) × (t < j) × (last (back S last v t) ≡ 0) × Long v t) ⊎ Long v j
   ends_or_long v zero = inr (λ t l. absurd (omega arith))
   ends_or_long v (suc j) = elim (ends_or_long v j) [
     | inl end ↦ inl (end.0, omega (arith, end.1), end.2, end.3)
-    | inr long ↦ elim (cases_eq (last (back S.tail last v j)) 0) [
+    | inr long ↦ elim (cases_eq (last (back S last v j)) 0) [
       | inl root ↦ inl (j, omega arith, root, long)
       | inr some ↦ inr
-          (λ t l. elim (cases_eq t j) [ inl here ↦ λ e. some (ap (λ z. last (back S.tail last v z)) (sym here) ∙ e) | inr before ↦ long t (omega arith) ])
+          (λ t l. elim (cases_eq t j) [ inl here ↦ λ e. some (ap (λ z. last (back S last v z)) (sym here) ∙ e) | inr before ↦ long t (omega arith) ])
     ]
   ]
 
   -- a number is at most the last steps behind it, if a step gains at most 1
-  pub risen : ((f : ℕ) → S.up f ≤ 1) → (v j : ℕ) → Long v j → num v ≤ num (back S.tail last v j) + j
+  pub risen : ((f : ℕ) → S.up f ≤ 1) → (v j : ℕ) → Long v j → num v ≤ num (back S last v j) + j
   risen small v zero long = omega arith
   risen small v (suc j) long =
       let ih = risen small v j (λ t l. long t (omega arith)) in
-      let f = last (back S.tail last v j) - 1 in
+      let f = last (back S last v j) - 1 in
       omega (arith, (linked v j (long j (omega arith))).rise, small f)
 
   module _ (fitted : AllFitted S num) where
     -- where no ring gains, it ends before it has met all nodes
-    ends : (v : ℕ) → v < S.nodes → (t : ℕ) × (t < S.nodes) × (last (back S.tail last v t) ≡ 0) × Long v t
+    ends : (v : ℕ) → v < S.nodes → (t : ℕ) × (t < S.nodes) × (last (back S last v t) ≡ 0) × Long v t
     ends v h = elim (ends_or_long v S.nodes) [
       | inl end ↦ end
       | inr long ↦ (let ring = long_ring v h long in absurd (fitted_no_ring S num ring.0 ring.1 ring.2 fitted ring.3))
@@ -129,14 +133,14 @@ module _ (S : Steps) (tails_there : (f : ℕ) → f < S.steps → S.tail f < S.n
     low small v h =
         let end = ends v h in
         let t = end.0 in
-        omega (arith, risen small v t end.3, end.1, (at.root (back S.tail last v t) end.2).0)
+        omega (arith, risen small v t end.3, end.1, (at.root (back S last v t) end.2).0)
 
-    under : (g : ℕ → ℕ) → AllFitted S g → (v j : ℕ) → Long v j → num v + g (back S.tail last v j) ≤ num (back S.tail last v j) + g v
+    under : (g : ℕ → ℕ) → AllFitted S g → (v j : ℕ) → Long v j → num v + g (back S last v j) ≤ num (back S last v j) + g v
     under g others v zero long = omega arith
     under g others v (suc j) long =
         let ih = under g others v j (λ t l. long t (omega arith)) in
         let link = linked v j (long j (omega arith)) in
-        let f = last (back S.tail last v j) - 1 in
+        let f = last (back S last v j) - 1 in
         omega (arith, link.rise, others f link.there, ap g link.ends)
 
     -- and they are the least by which no open step would gain
@@ -144,4 +148,4 @@ module _ (S : Steps) (tails_there : (f : ℕ) → f < S.steps → S.tail f < S.n
     least g others v h =
         let end = ends v h in
         let t = end.0 in
-        omega (arith, under g others v t end.3, (at.root (back S.tail last v t) end.2).0)
+        omega (arith, under g others v t end.3, (at.root (back S last v t) end.2).0)

@@ -127,23 +127,25 @@ rooms_ahead N s c m u at ring (suc j) t l h =
     omega (arith, push_room N now (at j) c there enough (at t) other, rooms_ahead N s c m u at ring j t (omega arith) h)
 
 -- round a ring, after j of its steps
-record Going (N : Network) (s u at : ℕ → ℕ) (c j : ℕ) : Type 0 where
+record Going (N : Network) (s u at : ℕ → ℕ) (c m j : ℕ) : Type 0 where
   within : (e : ℕ) → e < N.arcs → pushed_all s at c j e ≤ N.capacity e
+  rooms : (t : ℕ) → j ≤ t → t < m → c ≤ room_of N (pushed_all s at c j) (at t)
   flows : (v : ℕ) → v < N.nodes → outflow N (pushed_all s at c j) v + pick (eqb (u 0) v) c 0 ≡ inflow N (pushed_all s at c j) v + pick (eqb (u j) v) c 0
   gains :
       gain N (pushed_all s at c j) + c * span (λ t. (residual N s c).down (at t)) j ≡ gain N s + c * span (λ t. (residual N s c).up (at t)) j
 
 module _ (N : Network) (s : ℕ → ℕ) (c m : ℕ) (u at : ℕ → ℕ) (even : Circulation N s) (ring : Gaining (residual N s c) m u at) where
-  begin : Going N s u at c 0
+  begin : Going N s u at c m 0
   unfolding pushed_all span
   begin =
       record {
         within = even.within;
+        rooms = rooms_ahead N s c m u at ring 0;
         flows = λ v h. ap (λ z. z + pick (eqb (u 0) v) c 0) (even.even v h);
         gains = refl;
       }
 
-  go : (j : ℕ) → j < m → Going N s u at c j → Going N s u at c (suc j)
+  go : (j : ℕ) → j < m → Going N s u at c m j → Going N s u at c m (suc j)
   unfolding pushed_all span
   go j l at_j =
       let now = pushed_all s at c j in
@@ -152,6 +154,7 @@ module _ (N : Network) (s : ℕ → ℕ) (c m : ℕ) (u at : ℕ → ℕ) (even 
       let enough : c ≤ room_of N now f = rooms_ahead N s c m u at ring j j (omega arith) l in
       record {
         within = push_within N now f c there enough at_j.within;
+        rooms = rooms_ahead N s c m u at ring (suc j);
         flows = λ v h.
             let p = push_flow N now f c there enough v in
             let q = at_j.flows v h in
@@ -164,7 +167,7 @@ module _ (N : Network) (s : ℕ → ℕ) (c m : ℕ) (u at : ℕ → ℕ) (even 
             omega arith;
       }
 
-  goes : (j : ℕ) → j ≤ m → Going N s u at c j
+  goes : (j : ℕ) → j ≤ m → Going N s u at c m j
   goes zero l = begin
   goes (suc j) l = go j (omega arith) (goes j (omega arith))
 
