@@ -1,5 +1,6 @@
 // The program `clear`: reads a day's file and says that it is taken, or the number and the place for which it is turned away.
 #![tactic(auto)]
+
 ghost use Rattle.std.specs.Prelude.{◌≡◌, IfOk, Err, ◌≢◌};
 ghost use Rattle.day.specs.declared.refusals.Kind.{Kind};
 ghost use Rattle.day.specs.declared.refusals.Refusal.TheVariants.{Memory};

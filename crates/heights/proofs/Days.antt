@@ -1,6 +1,6 @@
 -- The theorems of the clearing day: a day is the network in which every arc counts. Assumes nothing.
 use Rattle.std.proofs.Common.{◌≡◌, ℕ, ◌+◌, ◌-◌, ◌*◌, ◌<◌, eqb, refl, ap, ◌∙◌, mul-le-mul_left, arith}
-use Rattle.day.specs.Bills.{Day, pick, span, let_off, lets_off, SetOff, total, Greatest, bound, Ring, one, more}
+use Rattle.day.specs.Bills.{Day, pick, let_off, lets_off, SetOff, total, Greatest, bound, Ring, one, more}
 use Rattle.setoff.specs.Promise.{left_by}
 use Rattle.setoff.proofs.Spans.{pick_same, pick_other, span_differ}
 use Rattle.heights.specs.Network.{network_of, outflow, inflow, Circulation, gain, Maximum, dual, Fit, Certified}
