@@ -12,6 +12,7 @@ mod input;
 use anyhow::anyhow;
 use day::{MOST_FIRMS, Refusal, Room, Size};
 use std::alloc::{AllocError, Global};
+use std::process::ExitCode;
 
 // Reads the day with memory enough that its want never hides another refusal.
 fn judge(heap: Global, file: &[u8]) -> Result<Result<Size, Refusal>, AllocError>
@@ -31,8 +32,9 @@ fn judge(heap: Global, file: &[u8]) -> Result<Result<Size, Refusal>, AllocError>
     Ok(day::read(file, &mut from, &mut to, &mut amount, room))
 }
 
-fn main(rt: HostRuntime) -> anyhow::Result<()> {
-    let file = input::read(&rt)?;
+// Prints the answer; an error stands for status 1, and its message is written already.
+fn run(rt: &HostRuntime) -> anyhow::Result<()> {
+    let file = input::read(rt)?;
     let Ok(answer) = judge(rt.alloc(), &file) else {
         eprintln!(rt; "clear: there is not enough memory for the file")?;
         return Err(anyhow!("no memory"));
@@ -46,5 +48,12 @@ fn main(rt: HostRuntime) -> anyhow::Result<()> {
             println!(rt; "{refusal}")?;
             Err(anyhow!("the day is refused"))
         }
+    }
+}
+
+fn main(rt: HostRuntime) -> ExitCode {
+    match run(&rt) {
+        Ok(()) => ExitCode::SUCCESS,
+        Err(_) => ExitCode::FAILURE,
     }
 }
