@@ -1,6 +1,7 @@
 // The benchmark: how long it takes to read a day of 512 firms and 4,096 invoices that are all in memory, and to add it up.
 // It prints on standard error, since times differ from run to run, and fails only where the time is past all bounds.
 #![tactic(auto)]
+
 mod clock;
 mod sums;
 

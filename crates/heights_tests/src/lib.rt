@@ -1,5 +1,6 @@
 // Tests of set-offs and heights: the worked days, the edges of each rule, and days at random.
 #![tactic(auto)]
+
 #[cfg(test)]
 mod edges;
 #[cfg(test)]
