@@ -1,7 +1,7 @@
 -- A day that is written is read back as it was. Assumes nothing.
 use Rattle.std.proofs.Common.{◌≡◌, ℕ, zero, suc, ◌+◌, ◌-◌, ◌*◌, ◌/◌, ◌%◌, ◌^◌, ◌<◌, List, [], ◌∷◌, ◌++◌, length, get_or, take, sym, refl, ap, ◌∙◌, le_of_suc-le-suc, not-suc-le-zero, mod-eq_of_lt, arith, lit<}
 use lib.Arith.{mod-mul}
-use Rattle.std.specs.List.{flat_map, AllByRecursion as All}
+use Rattle.std.specs.List.{flat_map, AllByRecursion}
 use Rattle.std.proofs.lemmas.List.{append_assoc, length-append, get_or_append_left, get_or-append_right, ext_get_or, take_more, flat_map_more}
 use Rattle.std.proofs.ByRecursion.{All-get_or}
 use Rattle.day.specs.declared.invoices.Invoice.{Invoice}
@@ -94,7 +94,7 @@ module _ (n : ℕ) (is : List Invoice) where
       ) in
       λ i. record { from = from i; to = to i; amount = amount i }
 
-  invoices_back : All Fits is → invoices_in (written n is) ≡ is
+  invoices_back : AllByRecursion Fits is → invoices_in (written n is) ≡ is
   invoices_back fits =
       ext_get_or blank (invoices_in (written n is)) is (length-invoices_in (written n is) ∙ whole-written)
       (λ e h.
@@ -102,7 +102,7 @@ module _ (n : ℕ) (is : List Invoice) where
       get_or-invoices_in (written n is) e blank (omega (arith, whole-written)) ∙ invoice_back e blank there (All-get_or Fits is e blank there fits))
 
   -- the day is brought by its file
-  pub written_brings : n < 256 ^ 2 → All Fits is → Brings n is (written n is)
+  pub written_brings : n < 256 ^ 2 → AllByRecursion Fits is → Brings n is (written n is)
   written_brings small fits =
       let firms = firms_back small in
       let invoices = invoices_back fits in

@@ -1,6 +1,6 @@
 -- The worked days hold: one test for all of them, which is computed, and what follows from it. Assumes nothing.
 use Rattle.std.proofs.Common.{◌≡◌, ℕ, zero, suc, ◌+◌, ◌-◌, ◌*◌, ◌^◌, ◌<◌, ◌≤◌, Bool, true, false, not, ◌&&◌, ◌||◌, eqb, ltb, leb, List, [], ◌∷◌, length, refl, ap, ◌∙◌, inl, inr, arith}
-use Rattle.std.specs.List.{AllByRecursion as All}
+use Rattle.std.specs.List.{AllByRecursion}
 use Rattle.std.proofs.lemmas.Bool.{cases_eq, eqb-true, eqb-false, ltb-true, leb-true, and_parts, or_cases, not-true}
 use Rattle.day.specs.Bills.{Day, Sound, day_of, pick, span, reads, let_off, lets_off, SetOff, total, bound}
 use Rattle.day.specs.File.{debtors, creditors, amounts}
@@ -154,7 +154,7 @@ all_pass : List Worked → Bool
 all_pass [] = true
 all_pass (w ∷ ws) = all_of (tests_of w) && all_pass ws
 
-all_hold : (ws : List Worked) → all_pass ws ≡ true → All Holds ws
+all_hold : (ws : List Worked) → all_pass ws ≡ true → AllByRecursion Holds ws
 unfolding all_pass
 all_hold [] passed = tt
 all_hold (w ∷ ws) passed =

@@ -1,6 +1,6 @@
 -- Worked days, each with a greatest set-off, its total and its heights, and the statement that they are. Assumes nothing.
 use Rattle.std.specs.Prelude.{◌≡◌, ℕ, List, [], ◌∷◌, length}
-use Rattle.std.specs.List.{AllByRecursion as All}
+use Rattle.std.specs.List.{AllByRecursion}
 use Rattle.day.specs.declared.invoices.Invoice.{Invoice}
 use Rattle.day.specs.Bills.{day_of, reads, total}
 use Rattle.day.specs.File.{debtors, creditors, amounts, SoundList}
@@ -53,4 +53,4 @@ worked =
     ∷ []
 
 unfoldable pub WorkedDays : Type 0
-WorkedDays = All Holds worked
+WorkedDays = AllByRecursion Holds worked

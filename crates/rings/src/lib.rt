@@ -1,5 +1,6 @@
 // Rings: the residual steps of a flow, the search for a ring that gains, and striking out along it.
 #![tactic(auto)]
+
 mod chains;
 mod improving;
 mod network;

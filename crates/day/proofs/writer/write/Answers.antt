@@ -1,6 +1,6 @@
 -- One more invoice is written at each turn, and all of them are read back.
 use Rattle.std.proofs.Common.{◌≡◌, vec_items, ap, ◌∙◌, subst, arith}
-use Rattle.std.specs.List.{AllByRecursion as All}
+use Rattle.std.specs.List.{AllByRecursion}
 use Rattle.std.proofs.ByRecursion.{All-more}
 use Rattle.std.proofs.lemmas.List.{take_all}
 use Rattle.day.specs.File.{written, Fits}
@@ -22,5 +22,5 @@ returns c =
     let is = c.args.invoices.now in
     let all = take_all c.loop-invoice.invoice-index is (omega arith) in
     let bytes : vec_items c.loop-invoice.file ≡ written n is = c.loop-invoice.invariant.0 ∙ ap (written n) all in
-    let brings = written_brings n is (omega arith) (subst (All Fits) all c.loop-invoice.invariant.1) in
+    let brings = written_brings n is (omega arith) (subst (AllByRecursion Fits) all c.loop-invoice.invariant.1) in
     record { bytes = bytes; back = rw bytes brings }
