@@ -1,13 +1,13 @@
 -- A round of the search as it goes: what holds after the steps that were tried, by the node that was raised last. Assumes nothing.
-use Rattle.std.proofs.Common.{◌≡◌, ℕ, suc, ◌+◌, ◌-◌, ◌*◌, ◌<◌, ◌≤◌, true, false, ◌≢◌, List, length, get_or, set, ℤ, pos, is_some, Some, None, Option, sym, refl, ap, ◌∙◌, subst, subst₂, inl, inr, arith}
-use Rattle.std.proofs.lemmas.List.{get_or-set_same, get_or-set_other, length-set}
+use Rattle.std.proofs.Common.{◌≡◌, ℕ, suc, ◌+◌, ◌-◌, ◌<◌, List, length, set, ℤ, pos, Some, None, Option, sym, ap, ◌∙◌, subst, subst₂, inl, inr, arith}
+use Rattle.std.proofs.lemmas.List.{get_or-set_same, get_or-set_other}
 use Rattle.std.proofs.lemmas.Bool.{cases_eq}
 use Rattle.day.specs.Bills.{reads}
 use Rattle.heights.specs.Residual.{Steps, Open, Fitted}
 use Rattle.heights.specs.Search.{put, Searched}
 use Rattle.heights.proofs.Searching.{put_same, put_other, passes, passes_when, raises, raises_when}
-use Rattle.rings.specs.Numbers.{natural, levels, Below}
-use Rattle.rings.specs.Tries.{Raised, Tried, ArcTried}
+use Rattle.rings.specs.Numbers.{natural, levels}
+use Rattle.rings.specs.Tries.{Raised, Tried}
 
 -- nothing was raised in this round, so all steps that were tried are fitted; or else v was raised last, and in this round
 abbrev pub Going : Steps → ℕ → ℕ → (num last : ℕ → ℕ) → Option ℕ → Type 0

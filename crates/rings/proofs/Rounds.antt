@@ -1,14 +1,13 @@
 -- What a round of the search comes to: both steps of an arc tried, last steps that end or close, and numbers that stay low. Assumes nothing.
-use Rattle.std.proofs.Common.{◌≡◌, ℕ, zero, suc, ◌+◌, ◌-◌, ◌*◌, ◌<◌, ◌≤◌, true, false, ◌≢◌, ◌⊎◌, List, length, get_or, set, ℤ, pos, is_some, Some, None, Option, sym, refl, ap, ◌∙◌, subst, inl, inr, arith}
-use Rattle.std.proofs.lemmas.List.{get_or-set_same, get_or-set_other, length-set}
+use Rattle.std.proofs.Common.{◌≡◌, ℕ, zero, suc, ◌+◌, ◌-◌, ◌*◌, ◌<◌, ◌≤◌, true, List, length, ℤ, is_some, Some, None, Option, sym, refl, ap, ◌∙◌, subst, inl, inr, arith}
 use Rattle.std.proofs.lemmas.Bool.{cases_eq, false≢true}
 use Rattle.day.specs.Bills.{reads}
-use Rattle.heights.specs.Residual.{Steps, Open, Fitted, Gaining}
+use Rattle.heights.specs.Residual.{Steps, Fitted, Gaining}
 use Rattle.heights.specs.Search.{put, Link, Searched, back}
 use Rattle.heights.proofs.Searching.{put_same, put_other}
 use Rattle.heights.proofs.Chains.{chain_gains, when_back, risen}
 use Rattle.rings.specs.Chains.{Closed, Ends}
-use Rattle.rings.specs.Numbers.{natural, levels, Below}
+use Rattle.rings.specs.Numbers.{levels}
 use Rattle.rings.specs.Tries.{Raised, Tried, ArcTried}
 use Rattle.rings.proofs.Following.{back-add}
 use Rattle.rings.proofs.Going.{Going, later, levels-set, passes_on, tries_on}

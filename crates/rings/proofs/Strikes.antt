@@ -1,12 +1,12 @@
 -- Cents pushed along one step, written in a row; and that a ring that gains can take them. Assumes nothing.
-use Rattle.std.proofs.Common.{◌≡◌, ℕ, suc, ◌+◌, ◌-◌, ◌*◌, ◌/◌, ◌%◌, ◌^◌, ◌<◌, ◌≤◌, Bool, true, false, ◌≢◌, List, length, set, sym, refl, ap, ◌∙◌, subst, inl, inr, arith}
+use Rattle.std.proofs.Common.{◌≡◌, ℕ, suc, ◌+◌, ◌-◌, ◌/◌, ◌%◌, ◌^◌, ◌<◌, ◌≤◌, Bool, true, false, ◌≢◌, List, length, set, sym, refl, ap, ◌∙◌, inl, inr, arith}
 use Rattle.std.proofs.lemmas.List.{get_or-set_same, get_or-set_other}
 use Rattle.std.proofs.lemmas.Bool.{cases_eq, eq-eqb, ne_eqb}
 use Rattle.day.specs.Bills.{pick, reads}
 use Rattle.heights.specs.Network.{Network}
 use Rattle.heights.specs.Residual.{along, room_of, residual, Gaining, pushed, pushed_all}
 use Rattle.heights.proofs.Pushing.{pushed_at, pushed_other, rooms_ahead}
-use Rattle.rings.specs.Striking.{Holds, Smallest, Pushable}
+use Rattle.rings.specs.Striking.{Holds, Pushable}
 
 module _ (flow : List ℕ) (f c x : ℕ) (there : f / 2 < length flow) (new : x ≡ pick (along f) (reads flow (f / 2) + c) (reads flow (f / 2) - c)) where
   pub pushed-set : reads (set flow (f / 2) x) ≡ pushed (reads flow) f c

@@ -1,5 +1,5 @@
 -- The network that lent rows are. Assumes nothing: this is a definition.
-use Rattle.std.specs.Prelude.{ℕ, length, nat_lt}
+use Rattle.std.specs.Prelude.{length, nat_lt}
 use Rattle.day.specs.Bills.{reads}
 use Rattle.heights.specs.Network.{Network as Graph}
 use Rattle.rings.specs.declared.network.Network.{Network}

@@ -1,5 +1,5 @@
 -- One last step more; after as many as there are nodes, the node lies on a ring.
-use Rattle.std.proofs.Common.{◌≡◌, subst, arith, rules}
+use Rattle.std.proofs.Common.{◌≡◌, subst, arith}
 use Rattle.day.specs.Bills.{reads}
 use Rattle.rings.specs.Chains.{tail_of}
 use Rattle.rings.specs.Rows.{network_in}

@@ -1,11 +1,10 @@
 -- What the ring has room for fits, and what is pushed round it gains.
-use Rattle.std.proofs.Common.{◌≡◌, ℕ, ◌+◌, ◌^◌, ◌<◌, ◌≤◌, max, length, sym, ap, ◌∙◌, subst, arith, rules}
+use Rattle.std.proofs.Common.{◌≡◌, ◌+◌, ◌≤◌, max, sym, subst, arith}
 use Rattle.day.specs.Bills.{reads}
 use Rattle.heights.specs.Network.{Circulation, gain}
 use Rattle.heights.specs.Promise.{RingGains}
-use Rattle.heights.specs.Residual.{residual, Gaining, pushed_all}
+use Rattle.heights.specs.Residual.{residual, Gaining}
 use Rattle.heights.proofs.Pushing.{ring_gains}
-use Rattle.rings.specs.Found.{Ringed}
 use Rattle.rings.specs.Improving.{RowsFit}
 use Rattle.rings.specs.Rows.{network_in}
 use Rattle.rings.specs.Striking.{Pushable}

@@ -1,9 +1,9 @@
 -- The rounds, arc by arc. A number as high as there are nodes, and a node raised in the last round, have a ring behind them.
-use Rattle.std.proofs.Common.{◌≡◌, ℕ, ◌+◌, ◌*◌, ◌<◌, ◌≤◌, true, false, length, get_or, replicate, ℤ, pos, Some, None, Option, sym, refl, ap, ◌∙◌, subst, arith, w32, SFits, to_z, of_z, rules}
+use Rattle.std.proofs.Common.{◌≡◌, ℕ, ◌+◌, ◌*◌, ◌<◌, ◌≤◌, true, false, get_or, replicate, ℤ, pos, Some, None, sym, refl, ap, ◌∙◌, subst, arith, w32, SFits, to_z, of_z, rules}
 use lib.Signed.{le_z}
 use Rattle.std.proofs.lemmas.Int.{ints}
 use Rattle.day.specs.Bills.{reads}
-use Rattle.heights.specs.Residual.{Steps, residual}
+use Rattle.heights.specs.Residual.{residual}
 use Rattle.heights.specs.Search.{back}
 use Rattle.heights.proofs.Existence.{tails_there}
 use Rattle.rings.specs.Chains.{Ends}
@@ -11,9 +11,8 @@ use Rattle.rings.specs.Found.{Searches}
 use Rattle.rings.specs.Numbers.{levels}
 use Rattle.rings.specs.Rows.{network_in}
 use Rattle.rings.specs.Tries.{ArcTried}
-use Rattle.rings.proofs.Going.{later}
 use Rattle.rings.proofs.Rounds.{lasts_there, high_goes_on, closed_gains}
-use Rattle.rings.proofs.Sweeps.{Swept, Sweeping, swept_none, swept_more, sweeping_none, sweeping_kept, sweeping_more, sweeping_raised, tried_exact, going_there, finds}
+use Rattle.rings.proofs.Sweeps.{Sweeping, swept_none, swept_more, sweeping_none, sweeping_kept, sweeping_more, sweeping_raised, tried_exact, going_there, finds}
 use Rattle.rings.proofs.Units.{up_small, heads_there, opposite}
 use Rattle.rings.proofs.search.search.Goals as goal
 use Rattle.rings.proofs.search.search.Goals.{in-Some+else-number-v, in_default, in-Some-raised+in_default-follow, in_default-raised}
@@ -28,7 +27,7 @@ rounds-init c = (
 
 pub arcs-init : goal.arcs-init
 arcs-init c = (
-  sweeping_none (residual (network_in c.args.network) (reads c.args.flow.now) c.args.least) c.rounds.round c.rounds.number c.rounds.new c.rounds.invariant.0,
+  sweeping_none (residual (network_in c.args.network) (reads c.args.flow.now) c.args.least) c.rounds.round c.rounds.number c.rounds.last c.rounds.invariant.0,
   c.rounds.invariant.1,
 )
 
@@ -43,10 +42,10 @@ follow-found-requires c =
     let round = c.rounds.round in
     let e = c.arcs.e in
     let tried = c.in-Some.ensures in
-    let kept = sweeping_raised S round c.arcs.number c.arcs.new c.try_arc.new.number c.try_arc.new.last e (λ f l. heads_there N s f l)
+    let kept = sweeping_raised S round c.arcs.number c.arcs.last c.try_arc.new.number c.try_arc.new.last e (λ f l. heads_there N s f l)
     c.in-Some.v c.arcs.raised (opposite N s c.args.least e) tried c.arcs.invariant.0 in
     record {
-      there = (tried_exact S round c.arcs.number c.arcs.new c.try_arc.new.number c.try_arc.new.last e (λ f l. heads_there N s f l)
+      there = (tried_exact S round c.arcs.number c.arcs.last c.try_arc.new.number c.try_arc.new.last e (λ f l. heads_there N s f l)
           c.in-Some.v c.arcs.invariant.0.numbers tried).0;
       last = omega arith;
       steps = λ v l. lasts_there S (round + 1) (2 * (e + 1)) (levels c.try_arc.new.number) (reads c.try_arc.new.last) kept v;
@@ -70,7 +69,7 @@ arcs-preserved c =
     let heads = λ (f : ℕ) (l : f < 2 * N.arcs). heads_there N s f l in
     let num = c.arcs.number in
     let num' = c.try_arc.new.number in
-    let last = c.arcs.new in
+    let last = c.arcs.last in
     let last' = c.try_arc.new.last in
     let before = c.arcs.raised in (
       elim c.match-try_arc.branch [
@@ -102,11 +101,11 @@ follow-requires c =
     let S = residual N s c.args.least in
     let round = c.rounds.round in
     let e = c.arcs.e in
-    let kept = sweeping_kept S round c.arcs.number c.arcs.new e c.arcs.raised c.arcs.invariant.0 in
+    let kept = sweeping_kept S round c.arcs.number c.arcs.last e c.arcs.raised c.arcs.invariant.0 in
     record {
-      there = going_there S c.rounds.round c.arcs.number c.arcs.new e c.arcs.raised c.in-Some-raised.v c.in-Some-raised.is c.arcs.invariant.0;
+      there = going_there S c.rounds.round c.arcs.number c.arcs.last e c.arcs.raised c.in-Some-raised.v c.in-Some-raised.is c.arcs.invariant.0;
       last = c.arcs.invariant.0.each;
-      steps = λ v l. lasts_there S (round + 1) (2 * e) (levels c.arcs.number) (reads c.arcs.new) kept v;
+      steps = λ v l. lasts_there S (round + 1) (2 * e) (levels c.arcs.number) (reads c.arcs.last) kept v;
       ring = omega arith;
     }
 
@@ -116,8 +115,8 @@ rounds-preserved c =
     let s = reads c.args.flow.now in
     let S = residual N s c.args.least in
     let e = c.arcs.e in
-    let last = reads c.arcs.new in (
-      swept_more S c.rounds.round c.arcs.number c.arcs.new e c.arcs.raised (omega arith) (λ f l. tails_there N s f l)
+    let last = reads c.arcs.last in (
+      swept_more S c.rounds.round c.arcs.number c.arcs.last e c.arcs.raised (omega arith) (λ f l. tails_there N s f l)
           (λ v same. elim c.match-raised.branch [
             | in-Some-raised+in_default-follow w ↦
                 let is = w.in-Some-raised.is in
@@ -133,7 +132,7 @@ pub returns-after-rounds : goal.returns-after-rounds
 returns-after-rounds c =
     let S = residual (network_in c.args.network) (reads c.args.flow.now) c.args.least in
     let swept = c.rounds.invariant.0 in
-    subst (λ r. Searches S c.rounds.number c.rounds.new c.rounds.ring r) (sym c.rounds.invariant.1)
+    subst (λ r. Searches S c.rounds.number c.rounds.last c.rounds.ring r) (sym c.rounds.invariant.1)
     record { numbers = swept.numbers; round = c.rounds.round + 1; step = 0; kept = swept.kept; fitted = swept.done (omega arith) }
 
 pub returns-then-number-v : goal.returns-then-number-v
@@ -148,8 +147,8 @@ returns-then-number-v c =
     let last' = c.try_arc.new.last in
     let tried = c.in-Some.ensures in
     let heads = λ (f : ℕ) (l : f < 2 * N.arcs). heads_there N s f l in
-    let kept = sweeping_raised S round c.arcs.number c.arcs.new num' last' e heads v c.arcs.raised (opposite N s c.args.least e) tried c.arcs.invariant.0 in
-    let exact = tried_exact S round c.arcs.number c.arcs.new num' last' e heads v c.arcs.invariant.0.numbers tried in
+    let kept = sweeping_raised S round c.arcs.number c.arcs.last num' last' e heads v c.arcs.raised (opposite N s c.args.least e) tried c.arcs.invariant.0 in
+    let exact = tried_exact S round c.arcs.number c.arcs.last num' last' e heads v c.arcs.invariant.0.numbers tried in
     let fits : SFits w32 (get_or num' v (pos 0)) = search rules in
     let high = higher (get_or num' v (pos 0)) (levels num' v) c.args.network.nodes c.from.result exact.1 c.from.ensures fits
     (omega (arith, c.args.network.few_nodes)) c.if-number-v.true in
@@ -159,6 +158,6 @@ returns-then-number-v c =
 pub returns-in-Some-follow : goal.returns-in-Some-follow
 returns-in-Some-follow c =
     let S = residual (network_in c.args.network) (reads c.args.flow.now) c.args.least in
-    let kept = sweeping_kept S c.rounds.round c.arcs.number c.arcs.new c.arcs.e c.arcs.raised c.arcs.invariant.0 in
+    let kept = sweeping_kept S c.rounds.round c.arcs.number c.arcs.last c.arcs.e c.arcs.raised c.arcs.invariant.0 in
     let (few, (start, closed)) = c.in-Some-follow.ensures in
-    (few, (back S.tail (reads c.arcs.new) start, closed_gains S (c.rounds.round + 1) (2 * c.arcs.e) (levels c.arcs.number) (reads c.arcs.new) kept start c.in-Some-follow.m (reads c.follow.new.ring) closed))
+    (few, (back S.tail (reads c.arcs.last) start, closed_gains S (c.rounds.round + 1) (2 * c.arcs.e) (levels c.arcs.number) (reads c.arcs.last) kept start c.in-Some-follow.m (reads c.follow.new.ring) closed))
