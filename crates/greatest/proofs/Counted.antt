@@ -1,7 +1,7 @@
 -- A day is the network in which all arcs are among the first that count: what is certified of it is shown of the day. Assumes nothing.
-use Rattle.std.proofs.Common.{◌≡◌, ℕ, ◌+◌, ◌<◌, ◌≤◌, ltb, sym, ap, ◌∙◌, subst, arith}
+use Rattle.std.proofs.Common.{◌≡◌, ℕ, ◌<◌, ltb, ap, arith}
 use Rattle.std.proofs.lemmas.Bool.{lt-ltb}
-use Rattle.day.specs.Bills.{Day, pick, span, let_off, lets_off, SetOff, total, Greatest}
+use Rattle.day.specs.Bills.{Day, pick, let_off, lets_off, SetOff, total}
 use Rattle.setoff.proofs.Spans.{span_ext}
 use Rattle.heights.specs.Network.{Network, outflow, inflow, Circulation, gain, unit, Fit, Certified}
 use Rattle.heights.specs.Promise.{Fits, Shown, Slackness}

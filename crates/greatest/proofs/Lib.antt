@@ -1,3 +1,4 @@
 pub mod Counted
+pub mod Gains
 pub mod Written
 pub mod Settled

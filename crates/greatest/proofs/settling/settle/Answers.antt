@@ -1,5 +1,5 @@
 -- The day is a network in which every arc counts, and what is certified of it is shown of the day.
-use Rattle.std.proofs.Common.{◌≡◌, replicate, pos, ap, ◌∙◌, arith}
+use Rattle.std.proofs.Common.{replicate, pos, ap, ◌∙◌, arith}
 use Rattle.day.specs.Bills.{reads}
 use Rattle.setoff.specs.Rows.{day_in}
 use Rattle.greatest.proofs.Counted.{circulation, set_off}
