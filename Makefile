@@ -5,13 +5,11 @@ SAMPLE ?= samples/valley.day
 
 # proves and builds the program first, then reads the sample day
 run:
-	rt check clear
-	target/bin/clear $(SAMPLE)
+	cd crates/clear && rt run -- $(abspath $(SAMPLE))
 
 # the gate: runs the program on the samples, then `rt ci`, which proves every crate from nothing and runs all tests
 test:
 	.ci/run
 
 bench:
-	rt check bench
-	target/bin/bench
+	cd crates/bench && rt run

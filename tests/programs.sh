@@ -2,7 +2,7 @@
 # Runs the built program `clear` and compares what it prints and its status: what no proof can say.
 set -euo pipefail
 cd "$(dirname "$0")/.."
-clear=$PWD/target/bin/clear
+clear=$PWD/crates/clear/out/clear
 scratch=$(mktemp -d)
 trap 'rm -rf "$scratch"' EXIT
 runs=0
