@@ -7,7 +7,7 @@ SAMPLE ?= samples/valley.day
 run:
 	cd crates/clear && rt run -- $(abspath $(SAMPLE))
 
-# the gate: runs the program on the samples, then `rt ci`, which proves every crate from nothing and runs all tests
+# the gate: runs the program on the samples, then `rt ci`, which proves each crate that it has not passed here and runs all tests
 test:
 	.ci/run
 

@@ -1,5 +1,5 @@
 -- Last steps followed back: a closed chain gains, a long one closes, and without rings numbers are low and least. Assumes nothing.
-use Rattle.std.proofs.Common.{◌≡◌, ℕ, zero, suc, ◌+◌, ◌-◌, ◌<◌, ◌≤◌, ◌≢◌, ◌⊎◌, sym, ap, ◌∙◌, inl, inr, arith}
+use Rattle.std.proofs.Common.{◌≡◌, ℕ, zero, suc, ◌+◌, ◌-◌, ◌<◌, ◌≤◌, ◌≢◌, ◌⊎◌, sym, refl, ap, ◌∙◌, inl, inr, arith}
 use Rattle.std.proofs.lemmas.Bool.{cases_eq, cases_lt}
 use Rattle.day.specs.Bills.{span}
 use Rattle.setoff.proofs.Spans.{span-le, span-add, span_tight, span_shift, span_at}
@@ -9,7 +9,13 @@ use Rattle.heights.proofs.Repeats.{Repeat, repeats}
 
 -- the node that j last steps lead back to
 abbrev pub back : Steps → (ℕ → ℕ) → ℕ → ℕ → ℕ
-back S last = back_along S.tail last
+back S last v zero = v
+back S last v (suc j) = S.tail (last (back S last v j) - 1)
+
+-- over the tails alone it is the same node
+pub back-along : (S : Steps) (last : ℕ → ℕ) (v j : ℕ) → back_along S.tail last v j ≡ back S last v j
+back-along S last v zero = refl
+back-along S last v (suc j) = ap (λ w. S.tail (last w - 1)) (back-along S last v j)
 
 -- a sum over the nodes of a ring is the same one node further on
 around : (g u : ℕ → ℕ) (m : ℕ) → u m ≡ u 0 → span (λ j. g (u (suc j))) m ≡ span (λ j. g (u j)) m

@@ -5,7 +5,7 @@ use Rattle.day.specs.Bills.{reads}
 use Rattle.heights.specs.Residual.{Steps, Fitted, Gaining}
 use Rattle.heights.specs.Search.{put, Link, Searched, back}
 use Rattle.heights.proofs.Searching.{put_same, put_other}
-use Rattle.heights.proofs.Chains.{chain_gains, when_back, risen}
+use Rattle.heights.proofs.Chains.{back as back_by, back-along, chain_gains, when_back, risen}
 use Rattle.rings.specs.Chains.{Closed, Ends}
 use Rattle.rings.specs.Numbers.{levels}
 use Rattle.rings.specs.Tries.{Raised, Tried, ArcTried}
@@ -89,8 +89,11 @@ module _ (S : Steps) where
     module _ (tails : (f : ℕ) → f < S.steps → S.tail f < S.nodes) where
       -- last steps don't end behind a node that was raised in a round as late as there are nodes, or to such a number
       pub late_goes_on : (v : ℕ) → S.nodes ≤ at.when v → Ends S.nodes S.tail last v → ⊥
-      late_goes_on v late end = (when_back S tails k i num last at v S.nodes late).1 end.at end.few end.root
+      late_goes_on v late end =
+          (when_back S tails k i num last at v S.nodes late).1 end.at end.few (ap last (sym (back-along S last v end.at)) ∙ end.root)
 
       pub high_goes_on : ((f : ℕ) → S.up f ≤ 1) → (v : ℕ) → S.nodes ≤ num v → Ends S.nodes S.tail last v → ⊥
       high_goes_on small v high end =
-          omega (arith, risen S tails k i num last at small v end.at end.long, (at.root (back S.tail last v end.at) end.root).0, end.few)
+          let long = λ (t : ℕ) (l : t < end.at) (root : last (back_by S last v t) ≡ 0). end.long t l (ap last (back-along S last v t) ∙ root) in
+          let root = ap last (sym (back-along S last v end.at)) ∙ end.root in
+          omega (arith, risen S tails k i num last at small v end.at long, (at.root (back_by S last v end.at) root).0, end.few)
