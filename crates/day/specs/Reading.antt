@@ -1,5 +1,5 @@
 -- Which refusal applies first to a file, and what is answered and written. Assumes nothing.
-use Rattle.std.specs.Prelude.{◌≡◌, ℕ, suc, ◌+◌, ◌*◌, ◌≤◌, min, Bool, true, false, cond, not, ◌||◌, List, [], ◌∷◌, ◌++◌, length, drop, Some, None, Ok, Err, Option, Result, ◌==◌, nat_lt}
+use Rattle.std.specs.Prelude.{◌≡◌, ℕ, ◌+◌, ◌*◌, ◌≤◌, min, Bool, true, false, not, ◌||◌, List, ◌++◌, length, drop, position, Some, None, Ok, Err, Option, Result, ◌==◌, nat_lt}
 use Rattle.std.specs.Option.{option_map}
 use Rattle.day.specs.declared.invoices.Invoice.{Invoice}
 use Rattle.day.specs.declared.invoices.Rule.{Rule}
@@ -22,14 +22,9 @@ abbrev pub or_next : Option Refusal → Option Refusal → Option Refusal
 or_next (Some r) next = Some r
 or_next None next = next
 
--- the place of the first invoice of which a test holds
-abbrev pub first : (Invoice → Bool) → List Invoice → Option ℕ
-first test [] = None
-first test (i ∷ is) = cond (test i) (Some 0) (option_map suc (first test is))
-
 -- a rule is looked for in all invoices before the next one
 abbrev pub by_rule : Rule → ℕ → List Invoice → Option Refusal
-by_rule r n is = option_map (refusal_by r) (first (breaks r n) is)
+by_rule r n is = option_map (refusal_by r) (position (breaks r n) is)
 
 abbrev pub by_rules : ℕ → List Invoice → Option Refusal
 by_rules n is = or_next (by_rule FirmsThere n is) (or_next (by_rule TwoFirms n is) (by_rule AmountInRange n is))

@@ -6,7 +6,8 @@ ghost use Rattle.day.specs.Promise.{Refuses, Takes};
 ghost use Rattle.day.specs.Reading.{refusal_in, answered, size_in, row_read, row_after, room_with, Writable};
 
 use crate::checks::check;
-use crate::layout::invoice_at;
+use crate::invoices::Invoice;
+use crate::layout::records;
 use crate::refusals::Refusal;
 use crate::sizes::{Room, Size};
 
@@ -22,8 +23,7 @@ fn judge(file: &[u8], from: &[u16], to: &[u16], amount: &[u64], room: Room) -> R
             .min(from.len())
             .min(to.len())
             .min(amount.len()),
-        numbers: room.numbers,
-        rings: room.rings,
+        ..room
     };
     check(file, room)
 }
@@ -36,8 +36,9 @@ fn fill(file: &[u8], size: Size, from: &mut [u16], to: &mut [u16], amount: &mut 
     ensures amount { amount.new ≡ row_read (amounts (invoices_in file.now)) amount.old }
     ensures sound { Sound size.firms size.invoices (reads from.new) (reads to.new) (reads amount.new) }
 {
-    for e in 0..size.invoices {
-        let invoice = invoice_at(file, e);
+    let records = records(file);
+    for (e, bytes) in records.iter().enumerate() {
+        let invoice = Invoice::from(*bytes);
         from[e] = invoice.from;
         to[e] = invoice.to;
         amount[e] = invoice.amount;

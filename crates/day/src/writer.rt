@@ -6,15 +6,6 @@ ghost use Rattle.day.specs.Promise.{Brings};
 use crate::invoices::Invoice;
 use std::alloc::{AllocError, Global};
 
-// A file with so many firms and no invoices yet.
-fn begin(heap: Global, firms: u16) -> Result<Vec<u8>, AllocError>
-    ensures { IfOk result (λ v. v.items ≡ written firms []) }
-{
-    let mut file = Vec::new(heap);
-    file.extend_from_slice(&firms.to_le_bytes())?;
-    Ok(file)
-}
-
 // One invoice more, whose numbers fit the bytes that they are given.
 fn push_invoice(file: &mut Vec<u8>, invoice: Invoice) -> Result<(), AllocError>
     ensures bytes { OnOk result (file.new.items ≡ file.old.items ++ invoice_bytes invoice) }
@@ -31,7 +22,7 @@ pub fn write(heap: Global, firms: u16, invoices: &[Invoice]) -> Result<Vec<u8>, 
     ensures bytes { IfOk result (λ v. v.items ≡ written firms invoices.now) }
     ensures back { IfOk result (λ v. Brings firms invoices.now v.items) }
 {
-    let mut file = begin(heap, firms)?;
+    let mut file = firms.to_le_bytes().to_vec(heap)?;
     for invoice in invoices {
         push_invoice(&mut file, *invoice)?;
     }
