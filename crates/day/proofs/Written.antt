@@ -3,17 +3,12 @@ use Rattle.std.proofs.Common.{◌≡◌, ℕ, ◌+◌, ◌*◌, ◌/◌, ◌%◌
 use lib.Arith.{mod-mul}
 use Rattle.std.specs.List.{flat_map, AllByRecursion}
 use Rattle.std.specs.Simd.{first_chunks}
-use Rattle.std.proofs.lemmas.List.{append_assoc, length-append, take_more, flat_map_more}
+use Rattle.std.proofs.lemmas.List.{length-append, take_more, flat_map_more}
 use Rattle.day.specs.declared.invoices.Invoice.{Invoice}
 use Rattle.day.specs.File.{firms_in, whole, invoice_of, invoices_in, two_bytes, invoice_bytes, written, Fits}
 use Rattle.day.specs.Promise.{Brings}
 use Rattle.day.proofs.Rows.{blank}
 use Rattle.day.proofs.Taken.{sound_taken}
-
--- three parts that are added one after the other
-pub three_parts : (w x y z a b c a' b' c' : List ℕ) → x ≡ w ++ a → y ≡ x ++ b → z ≡ y ++ c → a ≡ a' → b ≡ b' → c ≡ c' → z ≡ w ++ (a' ++ (b' ++ c'))
-three_parts w x y z a b c a' b' c' first second third isa isb isc =
-    third ∙ rw (second, first, isa, isb, isc) (append_assoc (w ++ a') b' c' ∙ append_assoc w a' (b' ++ c'))
 
 -- the bytes of a number give it back
 digit : (x c : ℕ) → 0 < c → x % (256 * c) ≡ (x / c % 256) * c + x % c

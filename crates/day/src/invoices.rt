@@ -16,6 +16,7 @@ pub struct Invoice {
 pub const MOST_CENTS: u64 = 1_000_000_000_000;
 
 // What every invoice keeps, in the order in which the rules are looked at.
+// An enum and not a closure for each: one name stands for a rule's test, its refusal and what is promised of it.
 #[derive(Clone, Copy, PartialEq, Eq, Debug)]
 pub(crate) enum Rule {
     FirmsThere,

@@ -1,6 +1,6 @@
 // How a day's file is laid out: numbers with the low byte first, n in two bytes and twelve bytes for each invoice.
 ghost use Rattle.std.specs.Prelude.{◌≡◌, map, length};
-ghost use Rattle.day.specs.File.{invoice_of, invoices_in, whole};
+ghost use Rattle.day.specs.File.{invoice_of, invoices_in, invoice_bytes, whole, Fits};
 
 use crate::invoices::Invoice;
 
@@ -9,7 +9,8 @@ pub(crate) const HEAD: usize = 2;
 
 pub(crate) const STRIDE: usize = 12;
 
-// Who owes, who is owed, and the cents.
+// An invoice and its bytes, both ways: who owes, who is owed, the cents.
+// Each byte has a name: the checker doesn't cover a pattern for a part of an array, as `cents @ ..`.
 impl From<[u8; STRIDE]> for Invoice {
     ghost from_gives = { λ bytes i. i ≡ invoice_of bytes };
 
@@ -20,6 +21,17 @@ impl From<[u8; STRIDE]> for Invoice {
             to: u16::from_le_bytes([t0, t1]),
             amount: u64::from_le_bytes([a0, a1, a2, a3, a4, a5, a6, a7]),
         }
+    }
+}
+
+impl From<Invoice> for [u8; STRIDE] {
+    ghost from_gives = { λ i bytes. (bytes ≡ invoice_bytes i) × Fits i };
+
+    fn from(invoice: Invoice) -> [u8; STRIDE] {
+        let [f0, f1] = invoice.from.to_le_bytes();
+        let [t0, t1] = invoice.to.to_le_bytes();
+        let [a0, a1, a2, a3, a4, a5, a6, a7] = invoice.amount.to_le_bytes();
+        [f0, f1, t0, t1, a0, a1, a2, a3, a4, a5, a6, a7]
     }
 }
 

@@ -32,7 +32,7 @@ pub enum Refusal {
 }
 
 impl Refusal {
-    // The number of the rule in the list of refusals.
+    // The number of the rule in the list of refusals. A match, since variants that hold a value have no number to cast to.
     pub fn number(self) -> u8
         ensures { result ≡ number_of self }
     {

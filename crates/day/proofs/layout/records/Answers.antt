@@ -4,11 +4,11 @@ use Rattle.std.specs.Simd.{first_chunks}
 use Rattle.day.specs.File.{invoice_of, invoices_in, whole}
 use Rattle.day.proofs.layout.records.Goals as goal
 
-pub returns-in_default : goal.returns-in_default
+pub returns-in_default-clause-invoices : goal.returns-in_default-clause-invoices
 unfolding invoices_in
-returns-in_default c =
+returns-in_default-clause-invoices c =
     let few = c.in_default.ensures.cases in
-    let none : whole c.args.file.now ≡ 0 = omega arith in record { invoices = rw none refl; len = rw none refl }
+    let none : whole c.args.file.now ≡ 0 = omega arith in rw none refl
 
 cut : (b rest : List ℕ) (rs : List (List ℕ)) → rest ≡ drop 2 b → rs ≡ first_chunks 12 (length rest / 12) rest → map invoice_of rs ≡ invoices_in b
 unfolding invoices_in
