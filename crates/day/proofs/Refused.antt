@@ -5,6 +5,7 @@ use Rattle.std.proofs.lemmas.Bool.Decides.{Decides-or, Decides-eqb, Decides-ltb}
 use Rattle.std.proofs.lemmas.List.Quantifiers.{position-Some}
 use Rattle.std.proofs.lemmas.List.Sums.{fails_before_first}
 use Rattle.std.specs.List.{position_or_len}
+use Rattle.std.specs.Bool.{then_some}
 use Rattle.std.specs.Option.{option_map}
 use Rattle.day.specs.declared.invoices.Invoice.{Invoice}
 use Rattle.day.specs.declared.invoices.Rule.{Rule}
@@ -15,7 +16,7 @@ use Rattle.day.specs.declared.refusals.Refusal.TheVariants.{Firms, Length, Memor
 use Rattle.day.specs.declared.sizes.Room.{Room}
 use Rattle.day.specs.File.{firms_in, whole, invoices_in}
 use Rattle.day.specs.Rules.{breaks, refusal_by, place_of}
-use Rattle.day.specs.Reading.{if_so, by_rule, by_rules, by_room, bad_firms, bad_length, refusal_in, answered}
+use Rattle.day.specs.Reading.{by_rule, by_rules, by_room, bad_firms, bad_length, refusal_in, answered}
 use Rattle.day.specs.Promise.{Fault, Faulty, Broken, First, Told, Due, Exactly, Refuses, turn}
 use Rattle.day.proofs.Rows.{blank}
 use Rattle.day.proofs.Turns.{Finds, finds_if, finds_next, finds_first, told_at, turn_below}
@@ -104,7 +105,7 @@ module _ (room : Room) (b : List ℕ) where
       (finds_if _ _ (Memory Numbers) (Decides-ltb room.numbers (firms_in b)) (λ q t _. told_at 2 q t))
       (finds_if _ _ (Memory Rings) (Decides-ltb room.rings (firms_in b + 2)) (λ q t _. told_at 3 q t)))
 
-  finds_length : Finds (Broken room b) 4 5 (if_so (bad_length b) (Length (length b)))
+  finds_length : Finds (Broken room b) 4 5 (then_some (bad_length b) (Length (length b)))
   finds_length = finds_if _ _ (Length (length b)) Decides-bad_length (λ q t broken. let at = told_at 4 q t in at ∙ ap Length (subst (Broken room b) at broken).0)
 
   finds_rules : Finds (Broken room b) 5 8 (by_rules (firms_in b) (invoices_in b))

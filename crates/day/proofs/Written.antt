@@ -1,6 +1,6 @@
 -- A day that is written is read back as it was. Assumes nothing.
-use Rattle.std.proofs.Common.{◌≡◌, ℕ, ◌+◌, ◌*◌, ◌/◌, ◌%◌, ◌^◌, ◌<◌, List, [], ◌∷◌, ◌++◌, map, length, get_or, take, sym, refl, ap, ap₂, ◌∙◌, mod-eq_of_lt, arith, lit<}
-use lib.Arith.{mod-mul}
+use Rattle.std.proofs.Common.{◌≡◌, ℕ, ◌+◌, ◌*◌, ◌/◌, ◌%◌, ◌^◌, ◌<◌, List, [], ◌∷◌, ◌++◌, map, length, get_or, take, sym, refl, ap, ap₂, ◌∙◌, arith}
+use Rattle.std.proofs.lemmas.Nat.{from_le_bytes-to_le_bytes_2, from_le_bytes-to_le_bytes_8}
 use Rattle.std.specs.List.{flat_map, AllByRecursion}
 use Rattle.std.specs.Simd.{first_chunks}
 use Rattle.std.proofs.lemmas.List.{length-append, take_more, flat_map_more}
@@ -11,27 +11,13 @@ use Rattle.day.proofs.Rows.{blank}
 use Rattle.day.proofs.Taken.{sound_taken}
 
 -- the bytes of a number give it back
-digit : (x c : ℕ) → 0 < c → x % (256 * c) ≡ (x / c % 256) * c + x % c
-digit x c some = mod-mul x {m = 256} {c = c} (lit< tt) some
-
 two_back : (x : ℕ) → x < 256 ^ 2 → x % 256 + 256 * (x / 256 % 256) ≡ x
-two_back x h = omega (arith, digit x 256 (lit< tt), mod-eq_of_lt h)
+two_back x h = omega (arith, from_le_bytes-to_le_bytes_2 x h)
 
 eight_back : (x : ℕ) → x < 256 ^ 8 →
     x % 256 + 256 * (x / 256 % 256) + 256 ^ 2 * (x / 256 ^ 2 % 256) + 256 ^ 3 * (x / 256 ^ 3 % 256)
     + 256 ^ 4 * (x / 256 ^ 4 % 256) + 256 ^ 5 * (x / 256 ^ 5 % 256) + 256 ^ 6 * (x / 256 ^ 6 % 256) + 256 ^ 7 * (x / 256 ^ 7 % 256) ≡ x
-eight_back x h =
-    omega (
-      arith,
-      digit x 256 (lit< tt),
-      digit x (256 ^ 2) (lit< tt),
-      digit x (256 ^ 3) (lit< tt),
-      digit x (256 ^ 4) (lit< tt),
-      digit x (256 ^ 5) (lit< tt),
-      digit x (256 ^ 6) (lit< tt),
-      digit x (256 ^ 7) (lit< tt),
-      mod-eq_of_lt h,
-    )
+eight_back x h = omega (arith, from_le_bytes-to_le_bytes_8 x h)
 
 length-joined : (is : List Invoice) → length (flat_map invoice_bytes is) ≡ 12 * length is
 length-joined [] = refl

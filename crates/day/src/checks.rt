@@ -1,9 +1,10 @@
 // The checks of a day's file, in the order of the rules: each hands its value on, or the day is refused.
 ghost use Rattle.std.specs.Prelude.{◌≡◌, map, position, if◌then◌else◌, Some, None, nat_lt};
+ghost use Rattle.std.specs.Bool.{then_some};
 ghost use Rattle.day.specs.declared.refusals.Refusal.TheVariants.{Memory};
 ghost use Rattle.day.specs.File.{firms_in, whole, invoice_of};
 ghost use Rattle.day.specs.Rules.{breaks};
-ghost use Rattle.day.specs.Reading.{if_so, bad_firms, bad_length, by_room, by_rule, by_rules, refusal_in, answered, size_in};
+ghost use Rattle.day.specs.Reading.{bad_firms, bad_length, by_room, by_rule, by_rules, refusal_in, answered, size_in};
 
 use crate::invoices::{Invoice, Rule};
 use crate::layout::{HEAD, STRIDE, records, whole_invoices};
@@ -29,7 +30,7 @@ fn invoices_of(file: &[u8]) -> Option<usize>
 
 // Whether as many places of this kind are lent as are needed.
 fn enough(kind: Kind, lent: usize, needed: usize) -> Result<(), Refusal>
-    ensures { result ≡ answered (if_so (nat_lt lent needed) (Memory kind)) tt }
+    ensures { result ≡ answered (then_some (nat_lt lent needed) (Memory kind)) tt }
 {
     if lent < needed {
         Err(Refusal::Memory(kind))
