@@ -1,4 +1,4 @@
-// The checks of a day's file, in the order of the rules: each hands its value on, or the day is refused.
+// The checks of a day's file, in the order of the rules: each hands on what it found, if anything, or the day is refused.
 ghost use Rattle.std.specs.Prelude.{◌≡◌, map, position, if◌then◌else◌, Some, None, nat_lt};
 ghost use Rattle.std.specs.Bool.{then_some};
 ghost use Rattle.day.specs.declared.refusals.Refusal.TheVariants.{Memory};
@@ -49,7 +49,8 @@ fn lent(room: Room, firms: u16, invoices: usize) -> Result<(), Refusal>
     enough(Kind::Rings, room.rings, firms + 2)
 }
 
-// The place of the first invoice that breaks the rule.
+// The place of the first invoice that breaks the rule. Firms and records are two parameters here and below: a struct of both
+// would be made in one place and only taken apart in the others.
 fn first_broken(rule: Rule, firms: u16, records: &[[u8; STRIDE]]) -> Option<usize>
     ensures { result ≡ position (breaks rule firms) (map invoice_of records.now) }
 {
