@@ -1,5 +1,5 @@
 -- Which refusal applies first to a file, and what is answered and written. Assumes nothing.
-use Rattle.std.specs.Prelude.{◌≡◌, ℕ, ◌+◌, ◌*◌, ◌≤◌, min, Bool, not, ◌||◌, List, ◌++◌, length, drop, position, Some, None, Ok, Err, Option, Result, ◌==◌, nat_lt}
+use Rattle.std.specs.Prelude.{ℕ, ◌+◌, ◌*◌, ◌≤◌, min, Bool, not, ◌||◌, List, ◌++◌, length, drop, position, Some, None, Ok, Err, Option, Result, ◌==◌, nat_lt}
 use Rattle.std.specs.Bool.{then_some}
 use Rattle.std.specs.Option.{option_map, option_or}
 use Rattle.day.specs.declared.invoices.Invoice.{Invoice}
@@ -65,10 +65,8 @@ abbrev pub room_with : Room → List ℕ → List ℕ → List ℕ → Room
 room_with room from to amount =
     record { invoices = min (min (min room.invoices (length from)) (length to)) (length amount); numbers = room.numbers; rings = room.rings }
 
--- a file of this size that is sound, and rows with a place for each of its invoices
-pub record Writable (s : Size) (b from to amount : List ℕ) : Type 0 where
-  pub firms : s.firms ≡ firms_in b
-  pub invoices : s.invoices ≡ whole b
+-- a file that is sound, and rows with a place for each of its invoices
+pub record Writable (b from to amount : List ℕ) : Type 0 where
   pub sound : SoundList (firms_in b) (invoices_in b)
   pub from_room : whole b ≤ length from
   pub to_room : whole b ≤ length to

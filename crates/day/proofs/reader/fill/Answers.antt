@@ -20,4 +20,4 @@ returns c =
     let from = filled (λ i. i.from) file _ _ c.args.from.now _ is all c.loop-e.invariant.0 in
     let to = filled (λ i. i.to) file _ _ c.args.to.now _ is all c.loop-e.invariant.1 in
     let amount = filled (λ i. i.amount) file _ _ c.args.amount.now _ is all c.loop-e.invariant.2 in
-    record { from = from; to = to; amount = amount; sound = rows_sound c.args.size file _ _ _ _ _ _ c.requires from to amount }
+    record { from = from; to = to; amount = amount; sound = rows_sound file _ _ _ _ _ _ c.requires from to amount }

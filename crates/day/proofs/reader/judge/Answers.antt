@@ -9,4 +9,4 @@ pub returns-clause-refused : goal.returns-clause-refused
 returns-clause-refused c = refuses _ _ (size_in c.args.file.now) _ (search rules)
 
 pub returns-clause-taken : goal.returns-clause-taken
-returns-clause-taken c = writable c.args.room _ _ _ _ _ (search rules)
+returns-clause-taken c = writable c.args.room c.args.file.now c.args.from.now c.args.to.now c.args.amount.now _ (search rules)
