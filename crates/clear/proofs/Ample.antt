@@ -3,6 +3,7 @@ use Rattle.std.proofs.Common.{◌≡◌, ℕ, ◌<◌, List, length, inl, inr, a
 use Rattle.day.specs.declared.refusals.Kind.{Kind}
 use Rattle.day.specs.declared.refusals.Kind.TheVariants.{Invoices, Numbers, Rings}
 use Rattle.day.specs.declared.refusals.Refusal.TheVariants.{Firms, Memory}
+use Rattle.day.specs.declared.sizes.Room.{Room}
 use Rattle.day.specs.File.{firms_in, whole}
 use Rattle.day.specs.Reading.{room_with}
 use Rattle.day.specs.Promise.{First}
@@ -17,9 +18,9 @@ never_short b Invoices first = let short = first.broken in omega arith
 never_short b Numbers first = few b Numbers first first.broken
 never_short b Rings first = few b Rings first (let short = first.broken in omega arith)
 
--- rows with a place for each invoice
-pub room_ample : (b : List ℕ) (k : ℕ) (from to amount : List ℕ) → k ≡ whole b → length from ≡ k → length to ≡ k → length amount ≡ k →
-    room_with (record { invoices = k; numbers = 512; rings = 514 }) from to amount ≡ ample b
-room_ample b k from to amount all f t a =
-    let same : (room_with (record { invoices = k; numbers = 512; rings = 514 }) from to amount).invoices ≡ whole b = omega arith in
-    λ i. record { invoices = same i; numbers = 512; rings = 514 }
+-- rows with a place for each invoice, and room for the most firms
+pub room_ample : (b : List ℕ) (room : Room) (from to amount : List ℕ) → room.invoices ≡ whole b → room.numbers ≡ 512 → room.rings ≡ 514 →
+    length from ≡ whole b → length to ≡ whole b → length amount ≡ whole b → room_with room from to amount ≡ ample b
+room_ample b room from to amount all numbers rings f t a =
+    let same : (room_with room from to amount).invoices ≡ whole b = omega arith in
+    λ i. record { invoices = same i; numbers = numbers i; rings = rings i }

@@ -8,11 +8,12 @@ ghost use Rattle.day.specs.Reading.{refusal_in, answered, size_in};
 ghost use Rattle.clear.specs.Lent.{ample};
 
 mod input;
+mod trouble;
 
-use anyhow::anyhow;
 use day::{MOST_FIRMS, Refusal, Room, Size};
 use std::alloc::{AllocError, Global};
 use std::process::ExitCode;
+use trouble::Trouble;
 
 // Reads the day with memory enough that its want never hides another refusal.
 fn judge(heap: Global, file: &[u8]) -> Result<Result<Size, Refusal>, AllocError>
@@ -20,7 +21,7 @@ fn judge(heap: Global, file: &[u8]) -> Result<Result<Size, Refusal>, AllocError>
     ensures enough { IfOk result (λ a. (k : Kind) → a ≢ Err (Memory k)) }
 {
     let invoices = day::whole_invoices(file);
-    let firms = MOST_FIRMS as usize;
+    let firms = usize::from(MOST_FIRMS);
     let mut from = vec![in heap; 0u16; invoices]?;
     let mut to = vec![in heap; 0u16; invoices]?;
     let mut amount = vec![in heap; 0u64; invoices]?;
@@ -32,28 +33,24 @@ fn judge(heap: Global, file: &[u8]) -> Result<Result<Size, Refusal>, AllocError>
     Ok(day::read(file, &mut from, &mut to, &mut amount, room))
 }
 
-// Prints the answer; an error stands for status 1, and its message is written already.
-fn run(rt: &HostRuntime) -> anyhow::Result<()> {
+// Prints the answer, and gives the status that goes with it.
+fn run(rt: &HostRuntime) -> Result<ExitCode, Trouble> {
     let file = input::read(rt)?;
-    let Ok(answer) = judge(rt.alloc(), &file) else {
-        eprintln!(rt; "clear: there is not enough memory for the file")?;
-        return Err(anyhow!("no memory"));
-    };
-    match answer {
+    match judge(rt.alloc(), &file)? {
         Ok(size) => {
-            println!(rt; "taken: {size}")?;
-            Ok(())
+            println!(rt; "taken: {size}").map_err(Trouble::Output)?;
+            Ok(ExitCode::SUCCESS)
         }
         Err(refusal) => {
-            println!(rt; "{refusal}")?;
-            Err(anyhow!("the day is refused"))
+            println!(rt; "{refusal}").map_err(Trouble::Output)?;
+            Ok(ExitCode::FAILURE)
         }
     }
 }
 
 fn main(rt: HostRuntime) -> ExitCode {
-    match run(&rt) {
-        Ok(()) => ExitCode::SUCCESS,
-        Err(_) => ExitCode::FAILURE,
-    }
+    run(&rt).unwrap_or_else(|trouble| {
+        let _ = eprintln!(rt; "{trouble}");
+        ExitCode::FAILURE
+    })
 }

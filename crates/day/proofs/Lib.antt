@@ -1,4 +1,3 @@
-pub mod Firsts
 pub mod Refused
 pub mod Rows
 pub mod Sounds

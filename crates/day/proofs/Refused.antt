@@ -1,7 +1,11 @@
 -- The checks of a file find the first refusal in the order of the rules. Assumes nothing.
-use Rattle.std.proofs.Common.{◌≡◌, ℕ, ◌+◌, ◌*◌, ◌<◌, ◌≤◌, true, leb, List, length, get_or, Some, None, Ok, Err, Decides, Option, Result, refl, ap, ◌∙◌, subst, inl, inr, arith}
-use Rattle.std.proofs.lemmas.Bool.{leb-true, le-leb, eqb-true, eqb-false, ltb-true, ltb-false, not-true, not-false, or_cases, or_parts, cases_Bool, both_ways}
+use Rattle.std.proofs.Common.{◌≡◌, ℕ, ◌+◌, ◌*◌, ◌<◌, ◌≤◌, Bool, true, false, leb, ltb, List, length, get_or, position, Some, None, Ok, Err, Decides, Option, Result, sym, refl, ap, ◌∙◌, subst, inl, inr, arith}
+use Rattle.std.proofs.lemmas.Bool.{leb-true, le-leb, eqb-true, eqb-false, ltb-true, ltb-false, not-true, not-false, or_cases, or_parts, cases_Bool, cases_lt, cond-true, both_ways}
 use Rattle.std.proofs.lemmas.Bool.Decides.{Decides-or, Decides-eqb, Decides-ltb}
+use Rattle.std.proofs.lemmas.List.Quantifiers.{position-Some}
+use Rattle.std.proofs.lemmas.List.Sums.{fails_before_first}
+use Rattle.std.specs.List.{position_or_len}
+use Rattle.std.specs.Bool.{then_some}
 use Rattle.std.specs.Option.{option_map}
 use Rattle.day.specs.declared.invoices.Invoice.{Invoice}
 use Rattle.day.specs.declared.invoices.Rule.{Rule}
@@ -12,9 +16,8 @@ use Rattle.day.specs.declared.refusals.Refusal.TheVariants.{Firms, Length, Memor
 use Rattle.day.specs.declared.sizes.Room.{Room}
 use Rattle.day.specs.File.{firms_in, whole, invoices_in}
 use Rattle.day.specs.Rules.{breaks, refusal_by, place_of}
-use Rattle.day.specs.Reading.{if_so, first, by_rule, by_rules, by_room, bad_firms, bad_length, refusal_in, answered}
+use Rattle.day.specs.Reading.{by_rule, by_rules, by_room, bad_firms, bad_length, refusal_in, answered}
 use Rattle.day.specs.Promise.{Fault, Faulty, Broken, First, Told, Due, Exactly, Refuses, turn}
-use Rattle.day.proofs.Firsts.{Found, found}
 use Rattle.day.proofs.Rows.{blank}
 use Rattle.day.proofs.Turns.{Finds, finds_if, finds_next, finds_first, told_at, turn_below}
 
@@ -26,6 +29,15 @@ Decides-breaks FirmsThere n i = Decides-or _ _ (Decides-leb n i.from) (Decides-l
 Decides-breaks TwoFirms n i = Decides-eqb i.from i.to
 Decides-breaks AmountInRange n i = Decides-or _ _ (Decides-eqb i.amount 0) (Decides-ltb _ i.amount)
 
+-- where no place is the first, the test fails at all
+none_passes : (test : Invoice → Bool) (is : List Invoice) → position test is ≡ None → (k : ℕ) → k < length is → test (get_or is k blank) ≡ false
+none_passes test is none k h = elim (cases_lt (position_or_len test is) (length is)) [
+  | inl there ↦
+      let some = sym (cond-true (ltb (position_or_len test is) (length is)) _ _ ((Decides-ltb _ _).1 there)) ∙ none in
+      absurd (grind arith)
+  | inr past ↦ fails_before_first test is k blank (omega arith)
+]
+
 -- a rule for invoices
 module _ (B : Refusal → Type 0) (r : Rule) (n t : ℕ) (is : List Invoice) (turns : (e : ℕ) → turn (refusal_by r e) ≡ t)
     (places : (e : ℕ) → place_of (refusal_by r e) ≡ e) (only : (q : Refusal) → turn q ≡ t → q ≡ refusal_by r (place_of q))
@@ -36,31 +48,32 @@ module _ (B : Refusal → Type 0) (r : Rule) (n t : ℕ) (is : List Invoice) (tu
       let f = (says (place_of q)).0 (subst B (only q at) broken) in
       (f.0, λ d. (Decides-breaks r n (get_or is (place_of q) d)).1 (f.1 d))
 
-  finds_by : (o : Option ℕ) → Found (breaks r n) is o → Finds B t (t + 1) (option_map (refusal_by r) o)
+  finds_by : (o : Option ℕ) → position (breaks r n) is ≡ o → Finds B t (t + 1) (option_map (refusal_by r) o)
   finds_by None none =
       record {
-        none = λ e q l h broken. let f = caught q (omega arith) broken in both_ways _ (none (place_of q) blank f.0) (f.1 blank);
+        none = λ e q l h broken. let f = caught q (omega arith) broken in both_ways _ (none_passes (breaks r n) is none (place_of q) f.0) (f.1 blank);
         some = λ s e. absurd (grind arith);
       }
-  finds_by (Some e) here =
+  finds_by (Some e) at =
+      let here = λ (d : Invoice). position-Some (breaks r n) is e d at in
       record {
         none = λ e. absurd (grind arith);
         some = λ s found_s. let same : s ≡ refusal_by r e = cc in
             rw same (
               omega (arith, turns e),
               omega (arith, turns e),
-              (says e).1 (here.0, λ d. (Decides-breaks r n (get_or is e d)).0 (here.1 d)),
+              (says e).1 ((here blank).0, λ d. (Decides-breaks r n (get_or is e d)).0 (here d).1),
               λ q l before broken. elim before [
                 | inl earlier ↦ omega (arith, turns e)
                 | inr nearer ↦
                     let f = caught q (nearer.0 ∙ turns e) broken in
-                    both_ways _ (here.2 (place_of q) blank (omega (arith, nearer.1, places e))) (f.1 blank)
+                    both_ways _ ((here blank).2 (place_of q) (omega (arith, nearer.1, places e))) (f.1 blank)
               ],
             );
       }
 
   finds_rule : Finds B t (t + 1) (by_rule r n is)
-  finds_rule = finds_by (first (breaks r n) is) (found (breaks r n) is)
+  finds_rule = finds_by (position (breaks r n) is) refl
 
 module _ (room : Room) (b : List ℕ) where
   Decides-bad_firms : Decides (bad_firms b) (Broken room b Firms)
@@ -92,7 +105,7 @@ module _ (room : Room) (b : List ℕ) where
       (finds_if _ _ (Memory Numbers) (Decides-ltb room.numbers (firms_in b)) (λ q t _. told_at 2 q t))
       (finds_if _ _ (Memory Rings) (Decides-ltb room.rings (firms_in b + 2)) (λ q t _. told_at 3 q t)))
 
-  finds_length : Finds (Broken room b) 4 5 (if_so (bad_length b) (Length (length b)))
+  finds_length : Finds (Broken room b) 4 5 (then_some (bad_length b) (Length (length b)))
   finds_length = finds_if _ _ (Length (length b)) Decides-bad_length (λ q t broken. let at = told_at 4 q t in at ∙ ap Length (subst (Broken room b) at broken).0)
 
   finds_rules : Finds (Broken room b) 5 8 (by_rules (firms_in b) (invoices_in b))

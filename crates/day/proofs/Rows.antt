@@ -1,49 +1,44 @@
--- The rows of a file's invoices, place by place, and how a loop writes one. Assumes nothing.
-use Rattle.std.proofs.Common.{◌≡◌, ℕ, ◌+◌, ◌<◌, List, [], ◌∷◌, ◌++◌, map, length, get_or, drop, set, sym, refl, ap, ◌∙◌, arith}
-use Rattle.std.specs.List.{range_with_len}
-use Rattle.std.proofs.lemmas.List.{set_at, drop_more, append_assoc}
-use Rattle.std.proofs.lemmas.List.FromFn.{length-map-range_with_len, get_or-map-range_with_len, map-range_with_len_more}
+-- How a loop writes a file's invoices into a row, and how many of them there are. Assumes nothing.
+use Rattle.std.proofs.Common.{◌≡◌, ℕ, zero, suc, ◌+◌, ◌<◌, List, [], ◌∷◌, ◌++◌, map, length, get_or, take, drop, set, sym, refl, ap, ◌∙◌, length-take-le, arith}
+use Rattle.std.specs.Simd.{first_chunks}
+use Rattle.std.proofs.lemmas.List.{set_at, drop_more, map_more, append_assoc, length-map, take_all}
+use Rattle.std.proofs.lemmas.Simd.{map-map}
 use Rattle.day.specs.declared.invoices.Invoice.{Invoice}
-use Rattle.day.specs.File.{invoice_at, invoices_in, whole}
+use Rattle.day.specs.File.{invoice_of, invoices_in, whole}
 
 -- any invoice, for the places past a list
 abbrev pub blank : Invoice
 blank = record { from = 0; to = 0; amount = 0 }
 
+length-first_chunks : (k : ℕ) (xs : List ℕ) → length (first_chunks 12 k xs) ≡ k
+length-first_chunks zero xs = refl
+length-first_chunks (suc k) xs = ap suc (length-first_chunks k (drop 12 xs))
+
 pub length-invoices_in : (b : List ℕ) → length (invoices_in b) ≡ whole b
 unfolding invoices_in
-length-invoices_in b = length-map-range_with_len (invoice_at b) 0 (whole b)
+length-invoices_in b = length-map (first_chunks 12 (whole b) (drop 2 b)) invoice_of ∙ length-first_chunks (whole b) (drop 2 b)
 
-pub get_or-invoices_in : (b : List ℕ) (e : ℕ) (d : Invoice) → e < whole b → get_or (invoices_in b) e d ≡ invoice_at b e
-unfolding invoices_in
-get_or-invoices_in b e d h = get_or-map-range_with_len (invoice_at b) 0 (whole b) e e d h (omega arith)
+-- a row into which the first k of some records are written
+abbrev pub partly : (Invoice → ℕ) → List (List ℕ) → ℕ → List ℕ → List ℕ
+partly get rs k old = map (λ r. get (invoice_of r)) (take k rs) ++ drop k old
 
-map-map : {A B C : Type 0} (g : B → C) (f : A → B) (xs : List A) → map g (map f xs) ≡ map (λ x. g (f x)) xs
-map-map g f [] = refl
-map-map g f (x ∷ xs) = ap (λ ys. g (f x) ∷ ys) (map-map g f xs)
-
--- a row of which the first k places are written
-abbrev pub partly : (ℕ → ℕ) → ℕ → List ℕ → List ℕ
-partly f k old = map f (range_with_len 0 k) ++ drop k old
-
-partly_more : (f : ℕ → ℕ) (k : ℕ) (old : List ℕ) → k < length old → set (partly f k old) k (f k) ≡ partly f (k + 1) old
-partly_more f k old h =
-    ap (λ (t : List ℕ). set (map f (range_with_len 0 k) ++ t) k (f k)) (drop_more old k 0 h)
-    ∙ set_at (map f (range_with_len 0 k)) (get_or old k 0) (drop (k + 1) old) (f k) k (length-map-range_with_len f 0 k)
-    ∙ sym (append_assoc (map f (range_with_len 0 k)) (f k ∷ []) (drop (k + 1) old))
-    ∙ ap (λ (t : List ℕ). t ++ drop (k + 1) old) (sym (map-range_with_len_more f 0 k k (omega arith)))
+-- one more of them is
+pub wrote : (get : Invoice → ℕ) (rs : List (List ℕ)) (k : ℕ) (old now : List ℕ) (i : Invoice) → k < length rs → k < length old →
+    i ≡ invoice_of (get_or rs k []) → now ≡ partly get rs k old → set now k (get i) ≡ partly get rs (k + 1) old
+wrote get rs k old now i there room is before =
+    let f = λ (r : List ℕ). get (invoice_of r) in
+    rw (is, before) (
+    ap (λ (t : List ℕ). set (map f (take k rs) ++ t) k (f (get_or rs k []))) (drop_more old k 0 room)
+    ∙ set_at (map f (take k rs)) (get_or old k 0) (drop (k + 1) old) (f (get_or rs k [])) k (length-map (take k rs) f ∙ length-take-le k rs (omega arith))
+    ∙ sym (append_assoc (map f (take k rs)) (f (get_or rs k []) ∷ []) (drop (k + 1) old))
+    ∙ ap (λ (t : List ℕ). t ++ drop (k + 1) old) (sym (map_more f rs k [] there))
+    )
 
 -- all of them are
-partly_all : (get : Invoice → ℕ) (b old : List ℕ) →
-    partly (λ e. get (invoice_at b e)) (whole b) old ≡ map get (invoices_in b) ++ drop (length (map get (invoices_in b))) old
-unfolding invoices_in
-partly_all get b old =
-    let row : map get (invoices_in b) ≡ map (λ e. get (invoice_at b e)) (range_with_len 0 (whole b)) = map-map get (invoice_at b) (range_with_len 0 (whole b)) in
-    rw (row, length-map-range_with_len (λ e. get (invoice_at b e)) 0 (whole b)) refl
-
-pub wrote : (f : ℕ → ℕ) (k : ℕ) (old now : List ℕ) (x : ℕ) → k < length old → now ≡ partly f k old → x ≡ f k → set now k x ≡ partly f (k + 1) old
-wrote f k old now x h is at = rw (is, at) (partly_more f k old h)
-
-pub filled : (get : Invoice → ℕ) (b old now : List ℕ) (k : ℕ) → k ≡ whole b → now ≡ partly (λ e. get (invoice_at b e)) k old →
-    now ≡ map get (invoices_in b) ++ drop (length (map get (invoices_in b))) old
-filled get b old now k all is = is ∙ ap (λ (j : ℕ). partly (λ e. get (invoice_at b e)) j old) all ∙ partly_all get b old
+pub filled : (get : Invoice → ℕ) (b : List ℕ) (rs : List (List ℕ)) (k : ℕ) (old now : List ℕ) → map invoice_of rs ≡ invoices_in b → k ≡ length rs →
+    now ≡ partly get rs k old → now ≡ map get (invoices_in b) ++ drop (length (map get (invoices_in b))) old
+filled get b rs k old now is all before =
+    let row : map (λ r. get (invoice_of r)) (take k rs) ≡ map get (invoices_in b)
+    = ap (map (λ r. get (invoice_of r))) (take_all k rs (omega arith)) ∙ sym (map-map get invoice_of rs) ∙ ap (map get) is in
+    let long : k ≡ length (map get (invoices_in b)) = all ∙ sym (length-map rs invoice_of) ∙ ap length is ∙ sym (length-map (invoices_in b) get) in
+    before ∙ ap (λ (t : List ℕ). t ++ drop k old) row ∙ ap (λ (j : ℕ). map get (invoices_in b) ++ drop j old) long

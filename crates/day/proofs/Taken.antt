@@ -1,5 +1,5 @@
 -- A file that is taken is a sound day, and so are the rows that hold it; and a sound day's file is taken. Assumes nothing.
-use Rattle.std.proofs.Common.{◌≡◌, ℕ, ◌+◌, ◌*◌, ◌<◌, ◌≤◌, List, map, length, IfOk, Some, None, Ok, Err, Option, Result, sym, refl, ap, ◌∙◌, inl, inr, arith}
+use Rattle.std.proofs.Common.{◌≡◌, ℕ, ◌+◌, ◌*◌, ◌<◌, ◌≤◌, List, map, length, IfOk, Some, None, Ok, Err, Option, Result, sym, refl, inl, inr, arith}
 use Rattle.std.proofs.lemmas.List.{get_or_append_left, length-map}
 use Rattle.std.proofs.lemmas.Bool.{cases_lt}
 use Rattle.day.specs.declared.invoices.Invoice.{Invoice}
@@ -65,30 +65,29 @@ none_from_ok None x y e = (refl, cc)
 none_from_ok (Some r) x y e = absurd (grind arith)
 
 pub writable : (room : Room) (b f t a : List ℕ) (r : Result Size Refusal) → r ≡ answered (refusal_in (room_with room f t a) b) (size_in b) →
-    IfOk r (λ s. Writable s b f t a)
+    IfOk r (λ s. (s ≡ size_in b) × Writable b f t a)
 writable room b f t a (Err r) e = tt
 writable room b f t a (Ok s) e =
     let none = none_from_ok (refusal_in (room_with room f t a) b) s (size_in b) e in
-    let enough = taken_room (room_with room f t a) b none.0 in
-    record {
-      firms = ap (λ s. s.firms) none.1;
-      invoices = ap (λ s. s.invoices) none.1;
-      sound = taken_sound (room_with room f t a) b none.0;
-      from_room = omega arith;
-      to_room = omega arith;
-      amount_room = omega arith;
-    }
+    let enough = taken_room (room_with room f t a) b none.0 in (
+      none.1,
+      record {
+        sound = taken_sound (room_with room f t a) b none.0;
+        from_room = omega arith;
+        to_room = omega arith;
+        amount_room = omega arith;
+      },
+    )
 
 -- rows that hold the file's invoices are sound where it is
-pub rows_sound : (s : Size) (b f₀ t₀ a₀ f t a : List ℕ) → Writable s b f₀ t₀ a₀ → f ≡ row_read (debtors (invoices_in b)) f₀ →
+pub rows_sound : (b f₀ t₀ a₀ f t a : List ℕ) → Writable b f₀ t₀ a₀ → f ≡ row_read (debtors (invoices_in b)) f₀ →
     t ≡ row_read (creditors (invoices_in b)) t₀ → a ≡ row_read (amounts (invoices_in b)) a₀ →
-    Sound s.firms s.invoices (reads f) (reads t) (reads a)
-rows_sound s b f₀ t₀ a₀ f t a w fs ts cents =
+    Sound (firms_in b) (whole b) (reads f) (reads t) (reads a)
+rows_sound b f₀ t₀ a₀ f t a w fs ts cents =
     let is = invoices_in b in
     let first : (get : Invoice → ℕ) (old : List ℕ) (e : ℕ) → e < length is → reads (row_read (map get is) old) e ≡ reads (map get is) e =
     λ get old e h. let h' : e < length (map get is) = omega (arith, length-map is get) in get_or_append_left (map get is) _ 0 e h' in
-    let k : s.invoices ≡ length is = w.invoices ∙ sym (length-invoices_in b) in
-    rw (w.firms, k)
+    rw (sym (length-invoices_in b))
     (sound_like (firms_in b) (length is) _ _ _ (reads f) (reads t) (reads a)
     (λ e h. rw fs (first (λ i. i.from) f₀ e h)) (λ e h. rw ts (first (λ i. i.to) t₀ e h)) (λ e h. rw cents (first (λ i. i.amount) a₀ e h))
     w.sound)

@@ -4,8 +4,9 @@ use Rattle.std.proofs.lemmas.Bool.{cases_lt, cases_order}
 use Rattle.day.specs.declared.refusals.Kind.TheVariants.{Invoices, Numbers, Rings}
 use Rattle.day.specs.declared.refusals.Refusal.{Refusal}
 use Rattle.day.specs.declared.refusals.Refusal.TheVariants.{Firms, Length, NoFirm, ToItself, Amount, Memory}
+use Rattle.std.specs.Bool.{then_some}
+use Rattle.std.specs.Option.{option_or}
 use Rattle.day.specs.Rules.{place_of}
-use Rattle.day.specs.Reading.{if_so, or_next}
 use Rattle.day.specs.Promise.{turn, Before}
 
 -- a refusal is told by its turn and its place
@@ -64,7 +65,7 @@ pub record Finds (Broken : Refusal → Type 0) (lo hi : ℕ) (o : Option Refusal
 
 -- one check after another
 pub finds_next : (B : Refusal → Type 0) (lo mid hi : ℕ) (o p : Option Refusal) → lo ≤ mid → mid ≤ hi →
-    Finds B lo mid o → Finds B mid hi p → Finds B lo hi (or_next o p)
+    Finds B lo mid o → Finds B mid hi p → Finds B lo hi (option_or o p)
 finds_next B lo mid hi (Some r) p low high here next =
     record {
       none = λ e. absurd (grind arith);
@@ -89,7 +90,7 @@ finds_next B lo mid hi None p low high here next =
 
 -- a check of one rule by a test
 pub finds_if : (B : Refusal → Type 0) (test : Bool) (r : Refusal) →
-    Decides test (B r) → ((q : Refusal) → turn q ≡ turn r → B q → q ≡ r) → Finds B (turn r) (turn r + 1) (if_so test r)
+    Decides test (B r) → ((q : Refusal) → turn q ≡ turn r → B q → q ≡ r) → Finds B (turn r) (turn r + 1) (then_some test r)
 finds_if B true r tells only =
     record {
       none = λ e. absurd (grind arith);

@@ -1,6 +1,7 @@
 -- What a day's file says: how many firms there are, and the invoices, numbers with the low byte first. Assumes nothing.
-use Rattle.std.specs.Prelude.{ℕ, ◌+◌, ◌-◌, ◌*◌, ◌/◌, ◌%◌, ◌^◌, ◌<◌, List, [], ◌∷◌, ◌++◌, map, length, slice_index}
-use Rattle.std.specs.List.{range_with_len, flat_map}
+use Rattle.std.specs.Prelude.{ℕ, ◌+◌, ◌-◌, ◌*◌, ◌/◌, ◌%◌, ◌^◌, ◌<◌, List, [], ◌∷◌, ◌++◌, map, length, drop, slice_index}
+use Rattle.std.specs.List.{flat_map}
+use Rattle.std.specs.Simd.{first_chunks}
 use Rattle.day.specs.declared.invoices.Invoice.{Invoice}
 use Rattle.day.specs.Bills.{Sound, reads}
 
@@ -17,18 +18,17 @@ eight b i =
 abbrev pub firms_in : List ℕ → ℕ
 firms_in b = two b 0
 
--- twelve bytes for each invoice: who owes, who is owed, the cents
-unfoldable pub invoice_at : List ℕ → ℕ → Invoice
-invoice_at b e =
-    record { from = two b (2 + 12 * e); to = two b (2 + 12 * e + 2); amount = eight b (2 + 12 * e + 4) }
+-- twelve bytes are an invoice: who owes, who is owed, the cents
+abbrev pub invoice_of : List ℕ → Invoice
+invoice_of r = record { from = two r 0; to = two r 2; amount = eight r 4 }
 
 -- how many invoices the file's length has whole
 abbrev pub whole : List ℕ → ℕ
 whole b = (length b - 2) / 12
 
--- the invoices, as they come in
+-- the invoices, as they come in, after the number of firms
 unfoldable pub invoices_in : List ℕ → List Invoice
-invoices_in b = map (invoice_at b) (range_with_len 0 (whole b))
+invoices_in b = map invoice_of (first_chunks 12 (whole b) (drop 2 b))
 
 -- invoices as three rows of numbers: who owes, who is owed, the cents
 abbrev pub debtors : List Invoice → List ℕ

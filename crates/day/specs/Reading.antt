@@ -1,6 +1,7 @@
 -- Which refusal applies first to a file, and what is answered and written. Assumes nothing.
-use Rattle.std.specs.Prelude.{◌≡◌, ℕ, suc, ◌+◌, ◌*◌, ◌≤◌, min, Bool, true, false, cond, not, ◌||◌, List, [], ◌∷◌, ◌++◌, length, drop, Some, None, Ok, Err, Option, Result, ◌==◌, nat_lt}
-use Rattle.std.specs.Option.{option_map}
+use Rattle.std.specs.Prelude.{ℕ, ◌+◌, ◌*◌, ◌≤◌, min, Bool, not, ◌||◌, List, ◌++◌, length, drop, position, Some, None, Ok, Err, Option, Result, ◌==◌, nat_lt}
+use Rattle.std.specs.Bool.{then_some}
+use Rattle.std.specs.Option.{option_map, option_or}
 use Rattle.day.specs.declared.invoices.Invoice.{Invoice}
 use Rattle.day.specs.declared.invoices.Rule.{Rule}
 use Rattle.day.specs.declared.invoices.Rule.TheVariants.{FirmsThere, TwoFirms, AmountInRange}
@@ -12,33 +13,20 @@ use Rattle.day.specs.declared.sizes.Size.{Size}
 use Rattle.day.specs.File.{firms_in, whole, invoices_in, SoundList}
 use Rattle.day.specs.Rules.{breaks, refusal_by}
 
--- one check: its refusal where the test holds
-abbrev pub if_so : Bool → Refusal → Option Refusal
-if_so true r = Some r
-if_so false r = None
-
--- a row of checks: the refusal of the first that gives one
-abbrev pub or_next : Option Refusal → Option Refusal → Option Refusal
-or_next (Some r) next = Some r
-or_next None next = next
-
--- the place of the first invoice of which a test holds
-abbrev pub first : (Invoice → Bool) → List Invoice → Option ℕ
-first test [] = None
-first test (i ∷ is) = cond (test i) (Some 0) (option_map suc (first test is))
+-- A row of checks is joined by `option_or`, which takes the first refusal; a check by one test is `then_some` of it.
 
 -- a rule is looked for in all invoices before the next one
 abbrev pub by_rule : Rule → ℕ → List Invoice → Option Refusal
-by_rule r n is = option_map (refusal_by r) (first (breaks r n) is)
+by_rule r n is = option_map (refusal_by r) (position (breaks r n) is)
 
 abbrev pub by_rules : ℕ → List Invoice → Option Refusal
-by_rules n is = or_next (by_rule FirmsThere n is) (or_next (by_rule TwoFirms n is) (by_rule AmountInRange n is))
+by_rules n is = option_or (by_rule FirmsThere n is) (option_or (by_rule TwoFirms n is) (by_rule AmountInRange n is))
 
 -- lent memory for n firms and k invoices: a place for each invoice, one for each firm, and one ring
 abbrev pub by_room : Room → ℕ → ℕ → Option Refusal
 by_room room n k =
-    or_next (if_so (nat_lt room.invoices k) (Memory Invoices))
-    (or_next (if_so (nat_lt room.numbers n) (Memory Numbers)) (if_so (nat_lt room.rings (n + 2)) (Memory Rings)))
+    option_or (then_some (nat_lt room.invoices k) (Memory Invoices))
+    (option_or (then_some (nat_lt room.numbers n) (Memory Numbers)) (then_some (nat_lt room.rings (n + 2)) (Memory Rings)))
 
 -- the number of firms is missing, 0 or above 512
 abbrev pub bad_firms : List ℕ → Bool
@@ -51,9 +39,9 @@ bad_length b = not (length b == 2 + 12 * whole b) || nat_lt 4096 (whole b)
 -- the first refusal that applies to a file
 unfoldable pub refusal_in : Room → List ℕ → Option Refusal
 refusal_in room b =
-    or_next (if_so (bad_firms b) Firms)
-    (or_next (by_room room (firms_in b) (whole b))
-    (or_next (if_so (bad_length b) (Length (length b))) (by_rules (firms_in b) (invoices_in b))))
+    option_or (then_some (bad_firms b) Firms)
+    (option_or (by_room room (firms_in b) (whole b))
+    (option_or (then_some (bad_length b) (Length (length b))) (by_rules (firms_in b) (invoices_in b))))
 
 -- the answer: the refusal, or else a value
 abbrev pub answered : {A : Type 0} → Option Refusal → A → Result A Refusal
@@ -77,10 +65,8 @@ abbrev pub room_with : Room → List ℕ → List ℕ → List ℕ → Room
 room_with room from to amount =
     record { invoices = min (min (min room.invoices (length from)) (length to)) (length amount); numbers = room.numbers; rings = room.rings }
 
--- a file of this size that is sound, and rows with a place for each of its invoices
-pub record Writable (s : Size) (b from to amount : List ℕ) : Type 0 where
-  pub firms : s.firms ≡ firms_in b
-  pub invoices : s.invoices ≡ whole b
+-- a file that is sound, and rows with a place for each of its invoices
+pub record Writable (b from to amount : List ℕ) : Type 0 where
   pub sound : SoundList (firms_in b) (invoices_in b)
   pub from_room : whole b ≤ length from
   pub to_room : whole b ≤ length to

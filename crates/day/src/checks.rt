@@ -1,10 +1,13 @@
-// The checks of a day's file, in the order of the rules: each hands its value on, or the day is refused.
-ghost use Rattle.std.specs.Prelude.{◌≡◌, if◌then◌else◌, Some, None, nat_lt};
-ghost use Rattle.day.specs.File.{firms_in, whole, invoices_in};
+// The checks of a day's file, in the order of the rules: each hands on what it found, if anything, or the day is refused.
+ghost use Rattle.std.specs.Prelude.{◌≡◌, map, position, if◌then◌else◌, Some, None, nat_lt};
+ghost use Rattle.std.specs.Bool.{then_some};
+ghost use Rattle.day.specs.declared.refusals.Refusal.TheVariants.{Memory};
+ghost use Rattle.day.specs.File.{firms_in, whole, invoice_of};
+ghost use Rattle.day.specs.Rules.{breaks};
 ghost use Rattle.day.specs.Reading.{bad_firms, bad_length, by_room, by_rule, by_rules, refusal_in, answered, size_in};
 
-use crate::invoices::Rule;
-use crate::layout::{HEAD, STRIDE, invoice_at, whole_invoices};
+use crate::invoices::{Invoice, Rule};
+use crate::layout::{HEAD, STRIDE, records, whole_invoices};
 use crate::refusals::{Kind, Refusal};
 use crate::sizes::{MOST_FIRMS, MOST_INVOICES, Room, Size};
 
@@ -12,14 +15,8 @@ use crate::sizes::{MOST_FIRMS, MOST_INVOICES, Room, Size};
 fn firms_of(file: &[u8]) -> Option<u16>
     ensures { result ≡ (if bad_firms file.now then None else Some (firms_in file.now)) }
 {
-    let [low, high, ..] = file else {
-        return None;
-    };
-    let firms = u16::from_le_bytes([*low, *high]);
-    let 1..=MOST_FIRMS = firms else {
-        return None;
-    };
-    Some(firms)
+    let firms = u16::from_le_bytes(*file.first_chunk::<HEAD>()?);
+    matches!(firms, 1..=MOST_FIRMS).then_some(firms)
 }
 
 // The number of invoices, if the file has twelve bytes for each and they are not too many.
@@ -27,59 +24,61 @@ fn invoices_of(file: &[u8]) -> Option<usize>
     ensures { result ≡ (if bad_length file.now then None else Some (whole file.now)) }
 {
     let invoices = whole_invoices(file);
-    if file.len() != HEAD + STRIDE * invoices || invoices > MOST_INVOICES {
-        None
+    let kept = file.len() == HEAD + STRIDE * invoices && invoices <= MOST_INVOICES;
+    kept.then_some(invoices)
+}
+
+// Whether as many places of this kind are lent as are needed.
+fn enough(kind: Kind, lent: usize, needed: usize) -> Result<(), Refusal>
+    ensures { result ≡ answered (then_some (nat_lt lent needed) (Memory kind)) tt }
+{
+    if lent < needed {
+        Err(Refusal::Memory(kind))
     } else {
-        Some(invoices)
+        Ok(())
     }
 }
 
-// The places that are needed, if so many are lent.
-fn enough(lent: usize, needed: usize) -> Option<usize>
-    ensures { result ≡ (if nat_lt lent needed then None else Some needed) }
+// Whether enough memory of each kind is lent for so many firms and invoices.
+fn lent(room: Room, firms: u16, invoices: usize) -> Result<(), Refusal>
+    ensures { result ≡ answered (by_room room firms invoices) tt }
 {
-    if lent < needed { None } else { Some(needed) }
+    let firms = usize::from(firms);
+    enough(Kind::Invoices, room.invoices, invoices)?;
+    enough(Kind::Numbers, room.numbers, firms)?;
+    enough(Kind::Rings, room.rings, firms + 2)
 }
 
-// The number of invoices, if each of them keeps the rule.
-fn each_keeps(rule: Rule, firms: u16, file: &[u8]) -> Result<usize, Refusal>
-    ensures { result ≡ answered (by_rule rule firms (invoices_in file.now)) (whole file.now) }
+// The place of the first invoice that breaks the rule. Firms and records are two parameters here and below: a struct of both
+// would be made in one place and only taken apart in the others.
+fn first_broken(rule: Rule, firms: u16, records: &[[u8; STRIDE]]) -> Option<usize>
+    ensures { result ≡ position (breaks rule firms) (map invoice_of records.now) }
 {
-    let invoices = whole_invoices(file);
-    for e in 0..invoices {
-        let Some(_) = rule.kept(firms, invoice_at(file, e)) else {
-            return Err(rule.refusal(e));
-        };
+    let mut invoices = records.iter().copied().map(Invoice::from);
+    invoices.position(|invoice| rule.is_broken(firms, invoice))
+}
+
+// Whether each invoice keeps the rule.
+fn each_keeps(rule: Rule, firms: u16, records: &[[u8; STRIDE]]) -> Result<(), Refusal>
+    ensures { result ≡ answered (by_rule rule firms (map invoice_of records.now)) tt }
+{
+    match first_broken(rule, firms, records) {
+        Some(e) => Err(rule.refusal(e)),
+        None => Ok(()),
     }
-    Ok(invoices)
 }
 
-// The number of invoices, if enough memory of each kind is lent for them and for so many firms.
-fn lent(room: Room, firms: u16, invoices: usize) -> Result<usize, Refusal>
-    ensures { result ≡ answered (by_room room firms invoices) invoices }
+// Whether each invoice keeps all three rules; a rule is looked for in all invoices before the next one.
+fn rules_kept(firms: u16, records: &[[u8; STRIDE]]) -> Result<(), Refusal>
+    ensures { result ≡ answered (by_rules firms (map invoice_of records.now)) tt }
 {
-    let Some(_) = enough(room.invoices, invoices) else {
-        return Err(Refusal::Memory(Kind::Invoices));
-    };
-    let Some(_) = enough(room.numbers, firms as usize) else {
-        return Err(Refusal::Memory(Kind::Numbers));
-    };
-    let Some(_) = enough(room.rings, firms as usize + 2) else {
-        return Err(Refusal::Memory(Kind::Rings));
-    };
-    Ok(invoices)
-}
-
-// The number of invoices, if each of them keeps all three rules; a rule is looked for in all invoices before the next one.
-fn rules_kept(firms: u16, file: &[u8]) -> Result<usize, Refusal>
-    ensures { result ≡ answered (by_rules firms (invoices_in file.now)) (whole file.now) }
-{
-    each_keeps(Rule::FirmsThere, firms, file)?;
-    each_keeps(Rule::TwoFirms, firms, file)?;
-    each_keeps(Rule::AmountInRange, firms, file)
+    each_keeps(Rule::FirmsThere, firms, records)?;
+    each_keeps(Rule::TwoFirms, firms, records)?;
+    each_keeps(Rule::AmountInRange, firms, records)
 }
 
 // How large the day is that a file writes, or the first refusal that applies with so much room.
+#[tactic(auto, unfolding(crate::specs::Reading::refusal_in))]
 pub(crate) fn check(file: &[u8], room: Room) -> Result<Size, Refusal>
     ensures { result ≡ answered (refusal_in room file.now) (size_in file.now) }
 {
@@ -87,9 +86,9 @@ pub(crate) fn check(file: &[u8], room: Room) -> Result<Size, Refusal>
         return Err(Refusal::Firms);
     };
     lent(room, firms, whole_invoices(file))?;
-    let Some(_) = invoices_of(file) else {
+    let Some(invoices) = invoices_of(file) else {
         return Err(Refusal::Length(file.len()));
     };
-    let invoices = rules_kept(firms, file)?;
+    rules_kept(firms, records(file))?;
     Ok(Size { firms, invoices })
 }

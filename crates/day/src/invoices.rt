@@ -1,5 +1,5 @@
 // An invoice, and the three rules that each invoice of a day keeps.
-ghost use Rattle.std.specs.Prelude.{◌≡◌, if◌then◌else◌, Some, None};
+ghost use Rattle.std.specs.Prelude.{◌≡◌};
 ghost use Rattle.day.specs.Rules.{breaks, refusal_by};
 
 use crate::refusals::Refusal;
@@ -16,6 +16,7 @@ pub struct Invoice {
 pub const MOST_CENTS: u64 = 1_000_000_000_000;
 
 // What every invoice keeps, in the order in which the rules are looked at.
+// An enum and not a closure for each: one name stands for a rule's test, its refusal and what is promised of it.
 #[derive(Clone, Copy, PartialEq, Eq, Debug)]
 pub(crate) enum Rule {
     FirmsThere,
@@ -24,16 +25,15 @@ pub(crate) enum Rule {
 }
 
 impl Rule {
-    // Hands the invoice on if it keeps the rule on a day of so many firms.
-    pub(crate) fn kept(self, firms: u16, invoice: Invoice) -> Option<Invoice>
-        ensures { result ≡ (if breaks self firms invoice then None else Some invoice) }
+    // Whether the invoice breaks the rule on a day of so many firms.
+    pub(crate) fn is_broken(self, firms: u16, invoice: Invoice) -> bool
+        ensures { result ≡ breaks self firms invoice }
     {
-        let broken = match self {
+        match self {
             Rule::FirmsThere => invoice.from >= firms || invoice.to >= firms,
             Rule::TwoFirms => invoice.from == invoice.to,
-            Rule::AmountInRange => invoice.amount == 0 || invoice.amount > MOST_CENTS,
-        };
-        if broken { None } else { Some(invoice) }
+            Rule::AmountInRange => !matches!(invoice.amount, 1..=MOST_CENTS),
+        }
     }
 
     // The refusal of a day whose invoice at this place breaks the rule.

@@ -1,12 +1,13 @@
 // The reader: from a file's bytes into lent slices, or the first refusal that applies.
 ghost use Rattle.std.specs.Prelude.{◌≡◌, IfOk};
 ghost use Rattle.day.specs.Bills.{Sound, reads};
-ghost use Rattle.day.specs.File.{invoices_in, debtors, creditors, amounts};
+ghost use Rattle.day.specs.File.{firms_in, whole, invoices_in, debtors, creditors, amounts};
 ghost use Rattle.day.specs.Promise.{Refuses, Takes};
 ghost use Rattle.day.specs.Reading.{refusal_in, answered, size_in, row_read, row_after, room_with, Writable};
 
 use crate::checks::check;
-use crate::layout::invoice_at;
+use crate::invoices::Invoice;
+use crate::layout::records;
 use crate::refusals::Refusal;
 use crate::sizes::{Room, Size};
 
@@ -14,7 +15,7 @@ use crate::sizes::{Room, Size};
 fn judge(file: &[u8], from: &[u16], to: &[u16], amount: &[u64], room: Room) -> Result<Size, Refusal>
     ensures answer { result ≡ answered (refusal_in (room_with room from.now to.now amount.now) file.now) (size_in file.now) }
     ensures refused { Refuses (room_with room from.now to.now amount.now) file.now result }
-    ensures taken { IfOk result (λ s. Writable s file.now from.now to.now amount.now) }
+    ensures taken { IfOk result (λ s. (s ≡ size_in file.now) × Writable file.now from.now to.now amount.now) }
 {
     let room = Room {
         invoices: room
@@ -22,22 +23,22 @@ fn judge(file: &[u8], from: &[u16], to: &[u16], amount: &[u64], room: Room) -> R
             .min(from.len())
             .min(to.len())
             .min(amount.len()),
-        numbers: room.numbers,
-        rings: room.rings,
+        ..room
     };
     check(file, room)
 }
 
-// Writes the file's invoices into the first places of three rows.
-fn fill(file: &[u8], size: Size, from: &mut [u16], to: &mut [u16], amount: &mut [u64])
-    requires { Writable size file.now from.old to.old amount.old }
+// Writes the file's invoices into the first places of three rows, by index: what goes through `iter_mut` is not known after.
+fn fill(file: &[u8], from: &mut [u16], to: &mut [u16], amount: &mut [u64])
+    requires { Writable file.now from.old to.old amount.old }
     ensures from { from.new ≡ row_read (debtors (invoices_in file.now)) from.old }
     ensures to { to.new ≡ row_read (creditors (invoices_in file.now)) to.old }
     ensures amount { amount.new ≡ row_read (amounts (invoices_in file.now)) amount.old }
-    ensures sound { Sound size.firms size.invoices (reads from.new) (reads to.new) (reads amount.new) }
+    ensures sound { Sound (firms_in file.now) (whole file.now) (reads from.new) (reads to.new) (reads amount.new) }
 {
-    for e in 0..size.invoices {
-        let invoice = invoice_at(file, e);
+    let records = records(file);
+    for (e, bytes) in records.iter().enumerate() {
+        let invoice = Invoice::from(*bytes);
         from[e] = invoice.from;
         to[e] = invoice.to;
         amount[e] = invoice.amount;
@@ -46,6 +47,7 @@ fn fill(file: &[u8], size: Size, from: &mut [u16], to: &mut [u16], amount: &mut 
 
 // Reads a day into the first places of three lent rows. Of the other lent memory only its room is looked at:
 // `room` counts the places in the invoices' other rows, in the firms' rows, and for rings.
+// The rows are plain slices and no struct, since a caller in C lends each by itself.
 pub fn read(
     file: &[u8],
     from: &mut [u16],
@@ -61,6 +63,6 @@ pub fn read(
     ensures amount { amount.new ≡ row_after result (amounts (invoices_in file.now)) amount.old }
 {
     let size = judge(file, from, to, amount, room)?;
-    fill(file, size, from, to, amount);
+    fill(file, from, to, amount);
     Ok(size)
 }

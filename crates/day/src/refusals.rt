@@ -3,14 +3,15 @@ ghost use Rattle.std.specs.Prelude.{◌≡◌, Some};
 ghost use Rattle.day.specs.Rules.{number_of, place_of};
 ghost use Rattle.day.specs.Text.{refusal_text};
 
+use std::error::Error;
 use std::fmt;
 
-// The kinds of lent memory, in the order in which their room is looked at.
+// The kinds of lent memory, in the order in which their room is looked at, with the number that is told of each.
 #[derive(Clone, Copy, PartialEq, Eq, Debug)]
 pub enum Kind {
-    Invoices,
-    Numbers,
-    Rings,
+    Invoices = 0,
+    Numbers = 1,
+    Rings = 2,
 }
 
 // The rule that a day breaks, with the place where it does.
@@ -31,7 +32,7 @@ pub enum Refusal {
 }
 
 impl Refusal {
-    // The number of the rule in the list of refusals.
+    // The number of the rule in the list of refusals. A match, since variants that hold a value have no number to cast to.
     pub fn number(self) -> u8
         ensures { result ≡ number_of self }
     {
@@ -51,13 +52,11 @@ impl Refusal {
     {
         match self {
             Refusal::Firms => 0,
-            Refusal::Length(length) => length,
-            Refusal::NoFirm(invoice) => invoice,
-            Refusal::ToItself(invoice) => invoice,
-            Refusal::Amount(invoice) => invoice,
-            Refusal::Memory(Kind::Invoices) => 0,
-            Refusal::Memory(Kind::Numbers) => 1,
-            Refusal::Memory(Kind::Rings) => 2,
+            Refusal::Length(place)
+            | Refusal::NoFirm(place)
+            | Refusal::ToItself(place)
+            | Refusal::Amount(place) => place,
+            Refusal::Memory(kind) => kind as usize,
         }
     }
 }
@@ -71,3 +70,5 @@ impl fmt::Display for Refusal {
         write!(f, "refused {number} at {place}")
     }
 }
+
+impl Error for Refusal {}

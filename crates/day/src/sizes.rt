@@ -28,8 +28,7 @@ impl fmt::Display for Size {
     ghost output = { λ s. Some (size_text s) };
 
     fn fmt<W: fmt::Write>(&self, f: &mut fmt::Formatter<W>) -> fmt::Result {
-        let firms = self.firms;
-        let invoices = self.invoices;
+        let Size { firms, invoices } = *self;
         write!(f, "{firms} firms, {invoices} invoices")
     }
 }

@@ -1,6 +1,6 @@
-// What the tests share: a day with memory enough, and an answer that is expected.
+// What the tests share: rows to lend, memory enough, and an answer that is expected.
 use day::{Invoice, Refusal, Room, Size};
-use std::alloc::Global;
+use std::alloc::{AllocError, Global};
 use std::process::Abort;
 use std::test::Fail;
 
@@ -11,6 +11,35 @@ pub(crate) const AMPLE: Room = Room {
     numbers: 512,
     rings: 514,
 };
+
+// The three rows that the reader writes.
+#[derive(Drop)]
+pub(crate) struct Rows {
+    pub(crate) from: Vec<u16>,
+    pub(crate) to: Vec<u16>,
+    pub(crate) amount: Vec<u64>,
+}
+
+impl Rows {
+    // Rows of these lengths, full of sevens, eights and nines.
+    pub(crate) fn new(
+        heap: Global,
+        from: usize,
+        to: usize,
+        amount: usize,
+    ) -> Result<Rows, AllocError> {
+        Ok(Rows {
+            from: vec![in heap; 7; from]?,
+            to: vec![in heap; 8; to]?,
+            amount: vec![in heap; 9; amount]?,
+        })
+    }
+
+    // The reader's answer to a file, lent these rows.
+    pub(crate) fn read(&mut self, file: &[u8], room: Room) -> Answer {
+        day::read(file, &mut self.from, &mut self.to, &mut self.amount, room)
+    }
+}
 
 pub(crate) fn invoice(from: u16, to: u16, amount: u64) -> Invoice {
     Invoice { from, to, amount }
@@ -28,13 +57,8 @@ pub(crate) fn expect(
     answer: Answer,
 ) -> Result<(), Fail> {
     let invoices = day::whole_invoices(file);
-    let mut from = vec![in heap; 0u16; invoices]?;
-    let mut to = vec![in heap; 0u16; invoices]?;
-    let mut amount = vec![in heap; 0u64; invoices]?;
-    assert_eq!(rt;
-        day::read(file, &mut from, &mut to, &mut amount, AMPLE),
-        answer
-    );
+    let mut rows = Rows::new(heap, invoices, invoices, invoices)?;
+    assert_eq!(rt; rows.read(file, AMPLE), answer);
     Ok(())
 }
 

@@ -1,5 +1,5 @@
 // Lent memory: one place too few of each kind, more than is needed, and what stands in it after.
-use crate::helpers::{AMPLE, invoice, taken};
+use crate::helpers::{AMPLE, Rows, invoice, taken};
 use day::{Kind, Refusal, Room};
 use std::alloc::Global;
 use std::test::Fail;
@@ -25,18 +25,13 @@ fn one_too_short(rt: HostRuntime) -> Result<(), Fail> {
         (2, 2, 2, 2, 0, 0, Err(Refusal::Memory(Kind::Numbers))),
     ];
     for (from, to, amount, invoices, numbers, rings, answer) in cases {
-        let mut from = vec![in heap; 7u16; from]?;
-        let mut to = vec![in heap; 7u16; to]?;
-        let mut amount = vec![in heap; 7u64; amount]?;
+        let mut rows = Rows::new(heap, from, to, amount)?;
         let room = Room {
             invoices,
             numbers,
             rings,
         };
-        assert_eq!(rt;
-            day::read(&small(heap)?, &mut from, &mut to, &mut amount, room),
-            answer
-        );
+        assert_eq!(rt; rows.read(&small(heap)?, room), answer);
     }
     Ok(())
 }
@@ -44,34 +39,23 @@ fn one_too_short(rt: HostRuntime) -> Result<(), Fail> {
 #[test]
 fn longer_than_needed(rt: HostRuntime) -> Result<(), Fail> {
     let heap = rt.alloc();
-    let mut from = [7u16; 4];
-    let mut to = [8u16; 3];
-    let mut amount = [9u64; 5];
-    let file = small(heap)?;
-    assert_eq!(rt;
-        day::read(&file, &mut from, &mut to, &mut amount, AMPLE),
-        taken(3, 2)
-    );
-    assert_eq!(rt; from, [0, 2, 7, 7]);
-    assert_eq!(rt; to, [1, 0, 8]);
-    assert_eq!(rt; amount, [500, 70000, 9, 9, 9]);
+    let mut rows = Rows::new(heap, 4, 3, 5)?;
+    assert_eq!(rt; rows.read(&small(heap)?, AMPLE), taken(3, 2));
+    assert_eq!(rt; rows.from.as_slice(), [0, 2, 7, 7].as_slice());
+    assert_eq!(rt; rows.to.as_slice(), [1, 0, 8].as_slice());
+    assert_eq!(rt; rows.amount.as_slice(), [500, 70000, 9, 9, 9].as_slice());
     Ok(())
 }
 
 #[test]
 fn refused_as_it_was(rt: HostRuntime) -> Result<(), Fail> {
     let heap = rt.alloc();
-    let mut from = [7u16; 3];
-    let mut to = [8u16; 3];
-    let mut amount = [9u64; 3];
+    let mut rows = Rows::new(heap, 3, 3, 3)?;
     let file = day::write(heap, 3, &[invoice(0, 1, 500), invoice(2, 0, 0)])?;
-    assert_eq!(rt;
-        day::read(&file, &mut from, &mut to, &mut amount, AMPLE),
-        Err(Refusal::Amount(1))
-    );
-    assert_eq!(rt; from, [7, 7, 7]);
-    assert_eq!(rt; to, [8, 8, 8]);
-    assert_eq!(rt; amount, [9, 9, 9]);
+    assert_eq!(rt; rows.read(&file, AMPLE), Err(Refusal::Amount(1)));
+    assert_eq!(rt; rows.from.as_slice(), [7, 7, 7].as_slice());
+    assert_eq!(rt; rows.to.as_slice(), [8, 8, 8].as_slice());
+    assert_eq!(rt; rows.amount.as_slice(), [9, 9, 9].as_slice());
     Ok(())
 }
 
@@ -80,8 +64,7 @@ fn no_invoices_need_no_rows(rt: HostRuntime) -> Result<(), Fail> {
     let file = day::write(rt.alloc(), 512, &[])?;
     let room = Room {
         invoices: 0,
-        numbers: 512,
-        rings: 514,
+        ..AMPLE
     };
     assert_eq!(rt;
         day::read(&file, &mut [], &mut [], &mut [], room),

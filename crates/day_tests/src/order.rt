@@ -1,5 +1,5 @@
 // A number is looked for in all invoices before the next one, in the order 1, 9, 2, 3, 4, 5.
-use crate::helpers::{AMPLE, expect, expect_day, invoice};
+use crate::helpers::{AMPLE, Rows, expect, expect_day, invoice};
 use day::{Kind, Refusal, Room};
 use std::test::Fail;
 
@@ -72,11 +72,9 @@ fn memory_before_too_many(rt: HostRuntime) -> Result<(), Fail> {
     let heap = rt.alloc();
     let many = vec![in heap; invoice(0, 1, 1); 4097]?;
     let file = day::write(heap, 2, &many)?;
-    let mut from = vec![in heap; 0u16; 4096]?;
-    let mut to = vec![in heap; 0u16; 4097]?;
-    let mut amount = vec![in heap; 0u64; 4097]?;
+    let mut rows = Rows::new(heap, 4096, 4097, 4097)?;
     assert_eq!(rt;
-        day::read(&file, &mut from, &mut to, &mut amount, AMPLE),
+        rows.read(&file, AMPLE),
         Err(Refusal::Memory(Kind::Invoices))
     );
     Ok(())

@@ -1,6 +1,6 @@
 // The bytes of a file, and the lines that are printed.
-use crate::helpers::{invoice, taken};
-use day::{Kind, MOST_CENTS, Refusal, Size};
+use crate::helpers::{AMPLE, Rows, invoice, taken};
+use day::{Kind, MOST_CENTS, Refusal, Room, Size};
 use std::test::Fail;
 
 // The layout, byte by byte: each number with its low byte first.
@@ -22,21 +22,18 @@ fn read_back(rt: HostRuntime) -> Result<(), Fail> {
             invoice(0, 257, 72_623_859_790),
         ],
     )?;
-    let mut from = [0u16; 2];
-    let mut to = [0u16; 2];
-    let mut amount = [0u64; 2];
-    let room = day::Room {
+    let mut rows = Rows::new(rt.alloc(), 2, 2, 2)?;
+    let room = Room {
         invoices: 2,
-        numbers: 512,
-        rings: 514,
+        ..AMPLE
     };
+    assert_eq!(rt; rows.read(&file, room), taken(512, 2));
+    assert_eq!(rt; rows.from.as_slice(), [258, 0].as_slice());
+    assert_eq!(rt; rows.to.as_slice(), [511, 257].as_slice());
     assert_eq!(rt;
-        day::read(&file, &mut from, &mut to, &mut amount, room),
-        taken(512, 2)
+        rows.amount.as_slice(),
+        [MOST_CENTS, 72_623_859_790].as_slice()
     );
-    assert_eq!(rt; from, [258, 0]);
-    assert_eq!(rt; to, [511, 257]);
-    assert_eq!(rt; amount, [MOST_CENTS, 72_623_859_790]);
     Ok(())
 }
 
