@@ -38,6 +38,11 @@ from() {
     "$@" <"$input"
 }
 
+# with a standard output that takes nothing
+full() {
+    "$@" >/dev/full
+}
+
 # a file of so many bytes: 2 firms, and 0 in all other bytes
 zeros() {
     printf '\002\000' >"$scratch/zeros.day"
@@ -72,5 +77,11 @@ expect 1 "refused 2 at 1000001" "" from "$scratch/zeros.day" "$clear"
 expect 1 "" "clear: can't read $scratch/missing.day: No such file" "$clear" "$scratch/missing.day"
 expect 1 "" "clear: can't read $scratch: Is a directory" "$clear" "$scratch"
 expect 1 "" "usage: clear [FILE]" "$clear" samples/pair.day samples/three.day
+long=$scratch/$(printf 'n%.0s' {1..200})
+expect 1 "" "clear: can't read $long: No such file" "$clear" "$long"
+
+# an answer that can't be written ends with status 1 and no word more
+expect 1 "" "" full "$clear" samples/pair.day
+expect 1 "" "" full "$clear" samples/refused.day
 
 echo "clear: $runs runs as expected"

@@ -12,6 +12,7 @@ mod trouble;
 
 use day::{MOST_FIRMS, Refusal, Room, Size};
 use std::alloc::{AllocError, Global};
+use std::io;
 use std::process::ExitCode;
 use trouble::Trouble;
 
@@ -34,18 +35,24 @@ fn judge(heap: Global, file: &[u8]) -> Result<Result<Size, Refusal>, AllocError>
 }
 
 // Prints the answer, and gives the status that goes with it.
-fn run(rt: &HostRuntime) -> Result<ExitCode, Trouble> {
-    let file = input::read(rt)?;
-    match judge(rt.alloc(), &file)? {
+fn tell(rt: &HostRuntime, answer: Result<Size, Refusal>) -> io::Result<ExitCode> {
+    match answer {
         Ok(size) => {
-            println!(rt; "taken: {size}").map_err(Trouble::Output)?;
+            println!(rt; "taken: {size}")?;
             Ok(ExitCode::SUCCESS)
         }
         Err(refusal) => {
-            println!(rt; "{refusal}").map_err(Trouble::Output)?;
+            println!(rt; "{refusal}")?;
             Ok(ExitCode::FAILURE)
         }
     }
+}
+
+// Answers what the arguments ask; of an answer that can't be written the status alone tells.
+fn run(rt: &HostRuntime) -> Result<ExitCode, Trouble> {
+    let file = input::read(rt)?;
+    let answer = judge(rt.alloc(), &file)?;
+    Ok(tell(rt, answer).unwrap_or(ExitCode::FAILURE))
 }
 
 fn main(rt: HostRuntime) -> ExitCode {

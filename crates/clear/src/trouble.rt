@@ -15,6 +15,4 @@ pub(crate) enum Trouble {
     Input(io::Error),
     #[error("clear: there is not enough memory for the file")]
     Memory(#[from] AllocError),
-    #[error("clear: can't write the answer: {0}")]
-    Output(io::Error),
 }

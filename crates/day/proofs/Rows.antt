@@ -1,22 +1,54 @@
--- How a loop writes a file's invoices into a row, and how many of them there are. Assumes nothing.
-use Rattle.std.proofs.Common.{◌≡◌, ℕ, zero, suc, ◌+◌, ◌<◌, List, [], ◌∷◌, ◌++◌, map, length, get_or, take, drop, set, sym, refl, ap, ◌∙◌, length-take-le, arith}
+-- A file's invoices, as its records give them, and how a loop writes them into a row. Assumes nothing.
+use Rattle.std.proofs.Common.{◌≡◌, ℕ, zero, suc, ◌+◌, ◌*◌, ◌<◌, List, [], ◌∷◌, ◌++◌, map, length, get_or, take, drop, set, sym, refl, ap, ap₂, ◌∙◌, length-take-le, arith}
+use Rattle.std.specs.List.{range_with_len}
 use Rattle.std.specs.Simd.{first_chunks}
-use Rattle.std.proofs.lemmas.List.{set_at, drop_more, map_more, append_assoc, length-map, take_all}
+use Rattle.std.proofs.lemmas.List.{set_at, drop_more, map_more, append_assoc, length-map, take_all, get_or-take, get_or-drop, drop-drop}
+use Rattle.std.proofs.lemmas.List.FromFn.{length-map-range_with_len}
 use Rattle.std.proofs.lemmas.Simd.{map-map}
 use Rattle.day.specs.declared.invoices.Invoice.{Invoice}
-use Rattle.day.specs.File.{invoice_of, invoices_in, whole}
+use Rattle.day.specs.File.{two, eight, invoice_from, invoice_of, invoice_at, invoices_in, whole}
 
 -- any invoice, for the places past a list
 abbrev pub blank : Invoice
 blank = record { from = 0; to = 0; amount = 0 }
 
-length-first_chunks : (k : ℕ) (xs : List ℕ) → length (first_chunks 12 k xs) ≡ k
-length-first_chunks zero xs = refl
-length-first_chunks (suc k) xs = ap suc (length-first_chunks k (drop 12 xs))
-
 pub length-invoices_in : (b : List ℕ) → length (invoices_in b) ≡ whole b
 unfolding invoices_in
-length-invoices_in b = length-map (first_chunks 12 (whole b) (drop 2 b)) invoice_of ∙ length-first_chunks (whole b) (drop 2 b)
+length-invoices_in b = length-map-range_with_len (invoice_at b) 0 (whole b)
+
+-- twelve bytes that are cut out of a file write the invoice that they write there
+cut_out : (b : List ℕ) (p : ℕ) → invoice_of (take 12 (drop p b)) ≡ invoice_from b p
+cut_out b p =
+    let byte : (j k : ℕ) → j < 12 → k ≡ p + j → get_or (take 12 (drop p b)) j 0 ≡ get_or b k 0
+    = λ j k h at. rw at (get_or-take 12 (drop p b) j 0 h ∙ get_or-drop p b j 0) in
+    let first : two (take 12 (drop p b)) 0 ≡ two b p = omega (arith, byte 0 p (omega arith) (omega arith), byte 1 (p + 1) (omega arith) (omega arith)) in
+    let second : two (take 12 (drop p b)) 2 ≡ two b (p + 2) =
+    omega (arith, byte 2 (p + 2) (omega arith) (omega arith), byte 3 (p + 2 + 1) (omega arith) (omega arith)) in
+    let cents : eight (take 12 (drop p b)) 4 ≡ eight b (p + 4) =
+    omega (
+      arith,
+      byte 4 (p + 4) (omega arith) (omega arith),
+      byte 5 (p + 4 + 1) (omega arith) (omega arith),
+      byte 6 (p + 4 + 2) (omega arith) (omega arith),
+      byte 7 (p + 4 + 3) (omega arith) (omega arith),
+      byte 8 (p + 4 + 4) (omega arith) (omega arith),
+      byte 9 (p + 4 + 5) (omega arith) (omega arith),
+      byte 10 (p + 4 + 6) (omega arith) (omega arith),
+      byte 11 (p + 4 + 7) (omega arith) (omega arith),
+    ) in
+    λ i. record { from = first i; to = second i; amount = cents i }
+
+cut_up : (b : List ℕ) (k s : ℕ) → map invoice_of (first_chunks 12 k (drop (2 + 12 * s) b)) ≡ map (invoice_at b) (range_with_len s k)
+unfolding invoice_at
+cut_up b zero s = refl
+cut_up b (suc k) s =
+    let next : drop 12 (drop (2 + 12 * s) b) ≡ drop (2 + 12 * (s + 1)) b = drop-drop 12 (2 + 12 * s) b ∙ ap (λ (n : ℕ). drop n b) (omega arith) in
+    ap₂ ◌∷◌ (cut_out b (2 + 12 * s)) (ap (λ (xs : List ℕ). map invoice_of (first_chunks 12 k xs)) next ∙ cut_up b k (s + 1))
+
+-- a file's invoices are those of its records
+pub recorded : (b : List ℕ) → map invoice_of (first_chunks 12 (whole b) (drop 2 b)) ≡ invoices_in b
+unfolding invoices_in
+recorded b = cut_up b (whole b) 0
 
 -- a row into which the first k of some records are written
 abbrev pub partly : (Invoice → ℕ) → List (List ℕ) → ℕ → List ℕ → List ℕ

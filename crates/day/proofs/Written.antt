@@ -7,7 +7,7 @@ use Rattle.std.proofs.lemmas.List.{length-append, take_more, flat_map_more}
 use Rattle.day.specs.declared.invoices.Invoice.{Invoice}
 use Rattle.day.specs.File.{firms_in, whole, invoice_of, invoices_in, two_bytes, invoice_bytes, written, Fits}
 use Rattle.day.specs.Promise.{Brings}
-use Rattle.day.proofs.Rows.{blank}
+use Rattle.day.proofs.Rows.{blank, recorded}
 use Rattle.day.proofs.Taken.{sound_taken}
 
 -- the bytes of a number give it back
@@ -44,8 +44,9 @@ module _ (n : ℕ) (is : List Invoice) where
   firms_back h = two_back n h
 
   invoices_back : AllByRecursion Fits is → invoices_in (written n is) ≡ is
-  unfolding invoices_in written
-  invoices_back fits = ap (λ (k : ℕ). map invoice_of (first_chunks 12 k (flat_map invoice_bytes is))) whole-written ∙ joined_back is fits
+  unfolding written
+  invoices_back fits =
+      sym (recorded (written n is)) ∙ ap (λ (k : ℕ). map invoice_of (first_chunks 12 k (flat_map invoice_bytes is))) whole-written ∙ joined_back is fits
 
   -- the day is brought by its file
   pub written_brings : n < 256 ^ 2 → AllByRecursion Fits is → Brings n is (written n is)

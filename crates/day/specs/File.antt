@@ -1,7 +1,6 @@
 -- What a day's file says: how many firms there are, and the invoices, numbers with the low byte first. Assumes nothing.
-use Rattle.std.specs.Prelude.{ℕ, ◌+◌, ◌-◌, ◌*◌, ◌/◌, ◌%◌, ◌^◌, ◌<◌, List, [], ◌∷◌, ◌++◌, map, length, drop, slice_index}
-use Rattle.std.specs.List.{flat_map}
-use Rattle.std.specs.Simd.{first_chunks}
+use Rattle.std.specs.Prelude.{ℕ, ◌+◌, ◌-◌, ◌*◌, ◌/◌, ◌%◌, ◌^◌, ◌<◌, List, [], ◌∷◌, ◌++◌, map, length, slice_index}
+use Rattle.std.specs.List.{range_with_len, flat_map}
 use Rattle.day.specs.declared.invoices.Invoice.{Invoice}
 use Rattle.day.specs.Bills.{Sound, reads}
 
@@ -18,17 +17,24 @@ eight b i =
 abbrev pub firms_in : List ℕ → ℕ
 firms_in b = two b 0
 
--- twelve bytes are an invoice: who owes, who is owed, the cents
+-- the invoice that twelve bytes write from place i on, who owes, who is owed, the cents; and that of twelve bytes alone
+abbrev pub invoice_from : List ℕ → ℕ → Invoice
+invoice_from b i = record { from = two b i; to = two b (i + 2); amount = eight b (i + 4) }
+
 abbrev pub invoice_of : List ℕ → Invoice
-invoice_of r = record { from = two r 0; to = two r 2; amount = eight r 4 }
+invoice_of r = invoice_from r 0
+
+-- in a file they come after the number of firms, twelve bytes for each invoice
+unfoldable pub invoice_at : List ℕ → ℕ → Invoice
+invoice_at b e = invoice_from b (2 + 12 * e)
 
 -- how many invoices the file's length has whole
 abbrev pub whole : List ℕ → ℕ
 whole b = (length b - 2) / 12
 
--- the invoices, as they come in, after the number of firms
+-- the invoices, as they come in
 unfoldable pub invoices_in : List ℕ → List Invoice
-invoices_in b = map invoice_of (first_chunks 12 (whole b) (drop 2 b))
+invoices_in b = map (invoice_at b) (range_with_len 0 (whole b))
 
 -- invoices as three rows of numbers: who owes, who is owed, the cents
 abbrev pub debtors : List Invoice → List ℕ
