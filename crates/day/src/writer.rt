@@ -8,6 +8,7 @@ use crate::layout::STRIDE;
 use std::alloc::{AllocError, Global};
 
 // The bytes of a day, whatever its numbers are: the reader says whether they keep the rules.
+#[tactic(auto, unfolding(crate::specs::File::written))]
 pub fn write(heap: Global, firms: u16, invoices: &[Invoice]) -> Result<Vec<u8>, AllocError>
     ensures bytes { IfOk result (λ v. v.items ≡ written firms invoices.now) }
     ensures back { IfOk result (λ v. Brings firms invoices.now v.items) }

@@ -1,5 +1,5 @@
--- The file begins with its number of firms, one more invoice is written at each turn, and all of them are read back.
-use Rattle.std.proofs.Common.{◌≡◌, ℕ, List, ◌++◌, vec_items, ap, ◌∙◌, subst, rules, arith}
+-- One more invoice is written at each turn, and all of them are read back.
+use Rattle.std.proofs.Common.{◌≡◌, ℕ, List, ◌++◌, vec_items, ap, ◌∙◌, subst, arith}
 use Rattle.std.specs.List.{AllByRecursion}
 use Rattle.std.proofs.ByRecursion.{All-more}
 use Rattle.std.proofs.lemmas.List.{take_all}
@@ -7,10 +7,6 @@ use Rattle.day.specs.File.{written, Fits}
 use Rattle.day.proofs.Rows.{blank}
 use Rattle.day.proofs.Written.{written_more, written_brings}
 use Rattle.day.proofs.writer.write.Goals as goal
-
-pub loop-invoice-init : goal.loop-invoice-init
-unfolding written
-loop-invoice-init c = (search rules, tt)
 
 pub loop-invoice-preserved : goal.loop-invoice-preserved
 loop-invoice-preserved c =
