@@ -1,6 +1,6 @@
 // Whether lent rows are a sound day, so that a caller who tests them can make `Invoices` of them.
 ghost use Rattle.std.specs.Prelude.{◌^◌, ◌<◌, ◌≤◌, ◌≢◌, Decides};
-ghost use Rattle.setoff.specs.Rows.{SoundRows};
+ghost use Rattle.setoff.specs.Sound.{SoundRows};
 
 use day::{Invoice, MOST_CENTS, MOST_FIRMS, MOST_INVOICES};
 

@@ -4,12 +4,12 @@ use Rattle.day.specs.Bills.{reads, SetOff}
 use Rattle.setoff.specs.Promise.{PositionKept}
 use Rattle.setoff.specs.Rows.{day_in}
 use Rattle.setoff.proofs.Positions.{position_kept}
-use Rattle.setoff.proofs.evenness.first_apart.Goals as goal
+use Rattle.setoff.proofs.struck.Struck.first_apart.Goals as goal
 
 pub returns : goal.returns
 unfolding PositionKept
 returns c =
-    let struck = c.args.struck in
+    let struck = c.args.self in
     let d = day_in struck.invoices in
     let s = reads struck.cents.now in
     let set : SetOff d s = record {
