@@ -2,7 +2,7 @@
 use crate::clock::time;
 use anyhow::{Result, anyhow, ensure};
 use day::MOST_FIRMS;
-use setoff::{Invoices, Struck, are_sound, first_uneven, total, within};
+use setoff::{Invoices, Misfit, Struck, are_sound};
 
 // Each call stops early at a fault, so there is none: nothing is struck out where firms are to be even, and everything where
 // heights, which are all 0, are to fit. Their bound is all that is owed.
@@ -21,29 +21,15 @@ pub(crate) fn time_sums<'a>(
         );
         Ok(())
     })?;
-    if !are_sound(MOST_FIRMS, from, to, amount) {
-        return Err(anyhow!("the rows are not sound"));
-    }
-    let invoices = Invoices {
-        firms: MOST_FIRMS,
-        from,
-        to,
-        amount,
-    };
-    let (Ok(()), Ok(())) = (within(invoices, nothing), within(invoices, amount)) else {
-        return Err(anyhow!("more is struck out than there is"));
-    };
-    let untouched = Struck {
-        invoices,
-        cents: nothing,
-    };
-    let cleared = Struck {
-        invoices,
-        cents: amount,
-    };
-    let owed = total(cleared);
+    let invoices = Invoices::new(MOST_FIRMS, from, to, amount).ok_or_else(|| anyhow!(
+        "the rows are not sound"
+    ))?;
+    let too_much = |_: Misfit| anyhow!("more is struck out than there is");
+    let untouched = Struck::new(invoices, nothing).map_err(too_much)?;
+    let cleared = Struck::new(invoices, amount).map_err(too_much)?;
+    let owed = cleared.total();
     time(rt, "even", || {
-        ensure!(first_uneven(untouched).is_none(), "a firm is not even");
+        ensure!(untouched.first_uneven().is_none(), "a firm is not even");
         Ok(())
     })?;
     time(rt, "bound", || {
