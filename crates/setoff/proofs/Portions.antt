@@ -36,6 +36,6 @@ module _ (s : Struck) where
       let there : e < length s.invoices.from.now = omega (arith, s.cents_each) in
       omega (arith, s.within e there, s.invoices.sound.sound.few_cents e there)
 
-  pub share_fits : (firm : ℕ → ℕ) (v k : ℕ) → k < length s.cents.now → share firm (reads s.cents.now) v k + reads s.cents.now k < 2 ^ 64
+  pub share_fits : (firm : ℕ → ℕ) (v k : ℕ) → k ≤ length s.cents.now → share firm (reads s.cents.now) v k < 2 ^ 64
   share_fits firm v k h =
-      omega (arith, share_bound firm (reads s.cents.now) v (10 ^ 12) k (λ e l. few_struck e (omega arith)), few_struck k h, s.cents_each, s.invoices.sound.sound.few_invoices)
+      omega (arith, share_bound firm (reads s.cents.now) v (10 ^ 12) k (λ e l. few_struck e (omega arith)), s.cents_each, s.invoices.sound.sound.few_invoices)

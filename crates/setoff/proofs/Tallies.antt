@@ -1,5 +1,5 @@
 -- Rows with a place for each firm, in which the firms' shares are added up invoice by invoice. Assumes nothing.
-use Rattle.std.proofs.Common.{◌≡◌, ℕ, ◌+◌, ◌^◌, ◌<◌, List, length, set, sym, ap, ◌∙◌, inl, inr, arith}
+use Rattle.std.proofs.Common.{◌≡◌, ℕ, ◌+◌, ◌^◌, ◌<◌, List, length, set, sym, refl, ap, ◌∙◌, inl, inr, arith}
 use Rattle.std.proofs.lemmas.List.{get_or-set_same, get_or-set_other, length-set}
 use Rattle.std.proofs.lemmas.Bool.{cases_eq}
 use Rattle.day.specs.Bills.{reads}
@@ -31,4 +31,4 @@ module _ (firm cents : ℕ → ℕ) (row : List ℕ) where
 -- and it stays within 64 bits
 pub tallied_fits : (s : Struck) (firm : ℕ → ℕ) (row : List ℕ) (k : ℕ) → k < length s.cents.now → firm k < length row →
     Tallied firm (reads s.cents.now) k row → reads row (firm k) + reads s.cents.now k < 2 ^ 64
-tallied_fits s firm row k h there so_far = omega (arith, so_far (firm k) there, share_fits s firm (firm k) k h)
+tallied_fits s firm row k h there so_far = omega (arith, so_far (firm k) there, share_same firm (reads s.cents.now) (firm k) k refl, share_fits s firm (firm k) (k + 1) (omega arith))

@@ -9,13 +9,12 @@ impl Struck<'_> {
     // What is struck out of the invoices at which the firm stands in a row, as in that of who owes and in that of who is owed.
     fn share_of(self, row: &[u16], firm: u16) -> u64
         requires { length row.now ≡ length self.cents.now }
-        ensures sum { result ≡ span (λ e. pick (reads row.now e == firm) (cents_in self.entry e) 0) (length row.now) }
-        ensures owing { row.now ≡ self.entry.invoices.from.now → result ≡ let_off (day_in self.entry.invoices) (cents_in self.entry) firm }
-        ensures owed { row.now ≡ self.entry.invoices.to.now → result ≡ lets_off (day_in self.entry.invoices) (cents_in self.entry) firm }
+        ensures { result ≡ span (λ e. pick (reads row.now e == firm) (cents_in self.entry e) 0) (length row.now) }
     {
         let mut sum = 0;
-        for e in 0..row.len() {
-            if row[e] == firm {
+        // a zip of the two rows, in a loop or a chain, takes from 1.6 to 3 times as long
+        for (e, at) in row.iter().enumerate() {
+            if *at == firm {
                 sum += self.cents[e];
             }
         }
@@ -23,6 +22,7 @@ impl Struck<'_> {
     }
 
     // What the firm is let off, on the invoices that it owes.
+    #[tactic(auto, unfolding(day::specs::Bills::let_off))]
     pub fn let_off(self, firm: u16) -> u64
         ensures { result ≡ let_off (day_in self.entry.invoices) (cents_in self.entry) firm }
     {
@@ -30,6 +30,7 @@ impl Struck<'_> {
     }
 
     // What the firm lets others off, on the invoices that are owed to it.
+    #[tactic(auto, unfolding(day::specs::Bills::lets_off))]
     pub fn lets_off(self, firm: u16) -> u64
         ensures { result ≡ lets_off (day_in self.entry.invoices) (cents_in self.entry) firm }
     {
@@ -50,9 +51,5 @@ fn sum_of(row: &[u64]) -> u64
     requires small { (e : ℕ) → e < length row.now → reads row.now e ≤ 10 ^ 12 }
     ensures { result ≡ span (reads row.now) (length row.now) }
 {
-    let mut sum = 0;
-    for cents in row {
-        sum += *cents;
-    }
-    sum
+    row.iter().sum()
 }
