@@ -1,28 +1,45 @@
 -- One invoice by heights, what it counts for and whether they fit there; and what is told of all of them. Assumes nothing.
-use Rattle.std.proofs.Common.{◌≡◌, ℕ, ◌+◌, ◌-◌, ◌*◌, ◌^◌, ◌<◌, ◌≤◌, Bool, true, false, List, length, get_or, Decides, MatchBool, refl, sym, ap, subst, arith}
-use Rattle.std.specs.List.{AllWithin, HoldsAt}
+use Rattle.std.proofs.Common.{◌≡◌, ℕ, ◌+◌, ◌-◌, ◌*◌, ◌^◌, ◌<◌, ◌≤◌, Bool, true, false, List, length, map, sum, get_or, Decides, MatchBool, refl, sym, ap, subst, arith}
+use Rattle.std.specs.List.{AllWithin, HoldsAt, range_with_len}
 use Rattle.std.proofs.lemmas.Nat.{mul-le}
-use Rattle.day.specs.Bills.{Day, span, SetOff, Greatest, bound}
+use Rattle.day.specs.Bills.{Day, reads, span, SetOff, Greatest, bound}
+use Rattle.setoff.specs.declared.invoices.Invoices.{Invoices}
+use Rattle.setoff.specs.Rows.{day_in}
+use Rattle.setoff.proofs.Spans.{span_bound}
+use Rattle.heights.specs.Rows.{Low}
 use Rattle.heights.specs.Promise.{Fits, HeightsBound, MeetsIsGreatest, Slackness, NoRingLeft}
-use Rattle.heights.specs.Told.{Bounds, Judges}
+use Rattle.heights.specs.Told.{counted, Bounds, Judges}
+use Rattle.heights.proofs.Ranges.{span_range}
 use Rattle.heights.proofs.Days.{heights_bound, meets_is_greatest, slackness, no_ring_left}
 
-abbrev pub counted : Day → (ℕ → ℕ) → ℕ → ℕ
-counted d h e = d.amount e * ((h (d.from e) + 1) - h (d.to e))
+-- at most 10^12 cents count, 513 times
+pub counted_small :
+    (i : Invoices) (heights : List ℕ) → Low i.firms heights → (e : ℕ) → e < length i.from.now → counted (day_in i) (reads heights) e ≤ 513 * 10 ^ 12
+counted_small i heights low e there =
+    let d = day_in i in
+    let h = reads heights in
+    let times = low.low (d.from e) (d.from_there e there) in
+    omega
+    (
+      arith,
+      mul-le (d.amount e) ((h (d.from e) + 1) - h (d.to e)) (10 ^ 12) 513 (i.sound.sound.few_cents e there) (omega (arith, times, i.sound.sound.few_firms))
+    )
 
-pub counted_small : (a from to : ℕ) → a ≤ 10 ^ 12 → from ≤ 512 → a * ((from + 1) - to) ≤ 513 * 10 ^ 12
-counted_small a from to cents low = omega (arith, mul-le a ((from + 1) - to) (10 ^ 12) 513 cents (omega arith))
-
--- what heights make of the firms and the amount of invoice e
-pub counts_at :
-    (d : Day) (h : ℕ → ℕ) (e : ℕ) (p : (ℕ × ℕ) × ℕ) (times : ℕ) → p ≡ ((d.from e, d.to e), d.amount e) → times ≡ (h p.0.0 + 1) - h p.0.1 →
-    p.1 * times ≡ counted d h e
-counts_at d h e p times is t = cc (ap (λ x. x.0.0) is, ap (λ x. x.0.1) is, ap (λ x. x.1) is, t)
-
--- the sum of what all count for is the bound
-pub bounds : (d : Day) (h : ℕ → ℕ) (b : ℕ) → b ≡ span (counted d h) d.invoices → b < 2 ^ 63 → Bounds d h b
+-- the sum of what all invoices count for is the bound; at most 4,096 of them, they stay below 2^63
+pub bounds :
+    (i : Invoices) (heights : List ℕ) → Low i.firms heights →
+    Bounds (day_in i) (reads heights) (sum (map (counted (day_in i) (reads heights)) (range_with_len 0 (length i.from.now))))
 unfolding bound HeightsBound
-bounds d h b sum small = record { sum = sum; above = λ s set. omega (arith, heights_bound d s h set); small = small }
+bounds i heights low =
+    let d = day_in i in
+    let h = reads heights in
+    let is = span_range (counted d h) d.invoices in
+    let small = span_bound (counted d h) (513 * 10 ^ 12) d.invoices (counted_small i heights low) in
+    record {
+      sum = sym is;
+      above = λ s set. omega (arith, is, heights_bound d s h set);
+      small = omega (arith, is, small, i.sound.sound.few_invoices);
+    }
 
 -- heights fit at the firms, the amount and the cents of an invoice
 abbrev pub FitsRow : (ℕ → ℕ) → (ℕ × ℕ) × (ℕ × ℕ) → Type 0

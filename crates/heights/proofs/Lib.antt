@@ -9,3 +9,4 @@ pub mod Days
 pub mod Examples
 pub mod Counted
 pub mod Zipped
+pub mod Ranges

@@ -1,8 +1,12 @@
 -- What is told of heights: their bound, and whether they fit what is struck out. Assumes nothing.
-use Rattle.std.specs.Prelude.{◌≡◌, ℕ, ◌^◌, ◌<◌, ◌≤◌, Bool, true, Decides}
+use Rattle.std.specs.Prelude.{◌≡◌, ℕ, ◌+◌, ◌-◌, ◌*◌, ◌^◌, ◌<◌, ◌≤◌, Bool, true, Decides}
 use Rattle.day.specs.Bills.{Day, SetOff, total, Greatest, bound, Ring}
 use Rattle.setoff.specs.Promise.{left_by}
 use Rattle.heights.specs.Promise.{Fits}
+
+-- what invoice e counts for: as many times its amount as the height of who owes it, and 1, are above the height of who is owed
+abbrev pub counted : Day → (ℕ → ℕ) → ℕ → ℕ
+counted d h e = d.amount e * ((h (d.from e) + 1) - h (d.to e))
 
 -- b is the bound of heights, so that no set-off whatever is above it
 pub record Bounds (d : Day) (h : ℕ → ℕ) (b : ℕ) : Type 0 where
