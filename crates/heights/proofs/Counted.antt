@@ -8,7 +8,7 @@ use Rattle.setoff.specs.Rows.{day_in}
 use Rattle.setoff.proofs.Spans.{span_bound}
 use Rattle.heights.specs.Rows.{Low}
 use Rattle.heights.specs.Promise.{Fits, HeightsBound, MeetsIsGreatest, Slackness, NoRingLeft}
-use Rattle.heights.specs.Told.{counted, Bounds, Judges}
+use Rattle.heights.specs.Told.{counted, Bounds, FitsAt, Judges}
 use Rattle.heights.proofs.Ranges.{span_range}
 use Rattle.heights.proofs.Days.{heights_bound, meets_is_greatest, slackness, no_ring_left}
 
@@ -19,10 +19,9 @@ counted_small i heights low e there =
     let d = day_in i in
     let h = reads heights in
     let times = low.low (d.from e) (d.from_there e there) in
-    omega
-    (
+    omega (
       arith,
-      mul-le (d.amount e) ((h (d.from e) + 1) - h (d.to e)) (10 ^ 12) 513 (i.sound.sound.few_cents e there) (omega (arith, times, i.sound.sound.few_firms))
+      mul-le (d.amount e) ((h (d.from e) + 1) - h (d.to e)) (10 ^ 12) 513 (i.sound.sound.few_cents e there) (omega (arith, times, i.sound.sound.few_firms)),
     )
 
 -- the sum of what all invoices count for is the bound; at most 4,096 of them, they stay below 2^63
@@ -41,13 +40,16 @@ bounds i heights low =
       small = omega (arith, is, small, i.sound.sound.few_invoices);
     }
 
--- heights fit at the firms, the amount and the cents of an invoice
-abbrev pub FitsRow : (ℕ → ℕ) → (ℕ × ℕ) × (ℕ × ℕ) → Type 0
-FitsRow h p = (p.1.1 < p.1.0 → h p.0.0 + 1 ≤ h p.0.1) × (0 < p.1.1 → h p.0.1 ≤ h p.0.0 + 1)
-
-pub judges : (d : Day) (s h : ℕ → ℕ) (answer : Bool) → Decides answer (Fits d s h) → Judges d s h answer
+-- heights that fit at each invoice fit, and what that says of a set-off is complementary slackness
+pub judges :
+    (d : Day) (s h : ℕ → ℕ) (answer : Bool) → Decides answer ((e : ℕ) → e < d.invoices → FitsAt d s h e) → Judges d s h answer
 unfolding MeetsIsGreatest Slackness NoRingLeft
-judges d s h answer fits =
+judges d s h answer each =
+    let fits : Decides answer (Fits d s h) =
+    (
+      λ t. record { left = λ e l. (each.0 t e l).0; struck = λ e l. (each.0 t e l).1 },
+      λ fitting. each.1 (λ e l. (fitting.left e l, fitting.struck e l))
+    ) in
     let greatest : answer ≡ true → SetOff d s → Greatest d s = λ t set. meets_is_greatest d s h set ((slackness d s h set).1 (fits.0 t)) in
     record {
       fits = fits;
@@ -55,17 +57,3 @@ judges d s h answer fits =
       greatest = greatest;
       no_ring = λ t set v ring. no_ring_left d s v (greatest t set) ring;
     }
-
--- heights that fit at each invoice fit
-pub judges_rows :
-    (d : Day) (s h : ℕ → ℕ) (rows : List ((ℕ × ℕ) × (ℕ × ℕ))) (answer : Bool) → length rows ≡ d.invoices →
-    ((e : ℕ) (p : (ℕ × ℕ) × (ℕ × ℕ)) → e < length rows → get_or rows e p ≡ ((d.from e, d.to e), (d.amount e, s e))) →
-    MatchBool answer (AllWithin (FitsRow h) rows 0 (length rows)) ((e : ℕ) × (e < length rows) × HoldsAt (λ p. FitsRow h p → ⊥) rows e) →
-    Judges d s h answer
-judges_rows d s h rows true long is all =
-    let at : (e : ℕ) → e < d.invoices → FitsRow h ((d.from e, d.to e), (d.amount e, s e)) =
-    λ e l. let there : e < length rows = omega arith in subst (FitsRow h) (is e ((0, 0), (0, 0)) there) (all e ((0, 0), (0, 0)) (omega arith) there) in
-    judges d s h true (λ t. record { left = λ e l. (at e l).0; struck = λ e l. (at e l).1 }, λ fits. refl)
-judges_rows d s h rows false long is (e, there, fails) =
-    judges d s h false
-    (λ t. (cc), λ fits. absurd (fails ((0, 0), (0, 0)) (subst (FitsRow h) (sym (is e ((0, 0), (0, 0)) there)) (fits.left e (omega arith), fits.struck e (omega arith)))))

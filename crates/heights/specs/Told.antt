@@ -14,6 +14,10 @@ pub record Bounds (d : Day) (h : ℕ → ℕ) (b : ℕ) : Type 0 where
   pub above : (s : ℕ → ℕ) → SetOff d s → total d s ≤ b
   pub small : b < 2 ^ 63
 
+-- heights fit at invoice e: it leads up by one at least where something is left of it, and by one at most where something is struck out
+abbrev pub FitsAt : Day → (ℕ → ℕ) → (ℕ → ℕ) → ℕ → Type 0
+FitsAt d s h e = (s e < d.amount e → h (d.from e) + 1 ≤ h (d.to e)) × (0 < s e → h (d.to e) ≤ h (d.from e) + 1)
+
 -- the answer is whether heights fit: that is, for a set-off, whether it meets their bound. Then it is a greatest one, and leaves no ring
 pub record Judges (d : Day) (s h : ℕ → ℕ) (answer : Bool) : Type 0 where
   pub fits : Decides answer (Fits d s h)
