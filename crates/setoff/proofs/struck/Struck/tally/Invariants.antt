@@ -1,9 +1,6 @@
--- Each place holds its firm's share of the invoices that were passed.
-use Rattle.day.specs.Bills.{reads}
-use Rattle.setoff.proofs.Tallies.{Tallied}
+-- Each place holds its firm's shares of the invoices that were passed.
+use Rattle.setoff.proofs.Tallies.{Shows, sums_of}
 use Rattle.setoff.proofs.struck.Struck.tally.Given as goal
 
 abbrev pub invariant-loop-e : goal.invariant-loop-e
-invariant-loop-e l =
-    Tallied (reads l.self.invoices.from.now) (reads l.self.cents.now) l.e l.gains
-    × Tallied (reads l.self.invoices.to.now) (reads l.self.cents.now) l.e l.gives
+invariant-loop-e l = Shows (sums_of l.self l.e l.e) l.sums
