@@ -1,8 +1,8 @@
 -- One invoice by heights, what it counts for and whether they fit there; and what is told of all of them. Assumes nothing.
-use Rattle.std.proofs.Common.{◌≡◌, ℕ, ◌+◌, ◌-◌, ◌*◌, ◌^◌, ◌<◌, ◌≤◌, Bool, true, false, List, length, map, sum, get_or, Decides, MatchBool, refl, sym, ap, subst, arith}
-use Rattle.std.specs.List.{AllWithin, HoldsAt, range_with_len}
+use Rattle.std.proofs.Common.{◌≡◌, ℕ, ◌+◌, ◌-◌, ◌*◌, ◌^◌, ◌<◌, ◌≤◌, Bool, true, List, length, map, sum, Decides, sym, arith}
+use Rattle.std.specs.List.{range_with_len}
 use Rattle.std.proofs.lemmas.Nat.{mul-le}
-use Rattle.day.specs.Bills.{Day, reads, span, SetOff, Greatest, bound}
+use Rattle.day.specs.Bills.{Day, reads, SetOff, Greatest, bound}
 use Rattle.setoff.specs.declared.invoices.Invoices.{Invoices}
 use Rattle.setoff.specs.Rows.{day_in}
 use Rattle.setoff.proofs.Spans.{span_bound}
@@ -45,10 +45,9 @@ pub judges :
     (d : Day) (s h : ℕ → ℕ) (answer : Bool) → Decides answer ((e : ℕ) → e < d.invoices → FitsAt d s h e) → Judges d s h answer
 unfolding MeetsIsGreatest Slackness NoRingLeft
 judges d s h answer each =
-    let fits : Decides answer (Fits d s h) =
-    (
+    let fits : Decides answer (Fits d s h) = (
       λ t. record { left = λ e l. (each.0 t e l).0; struck = λ e l. (each.0 t e l).1 },
-      λ fitting. each.1 (λ e l. (fitting.left e l, fitting.struck e l))
+      λ fitting. each.1 (λ e l. (fitting.left e l, fitting.struck e l)),
     ) in
     let greatest : answer ≡ true → SetOff d s → Greatest d s = λ t set. meets_is_greatest d s h set ((slackness d s h set).1 (fits.0 t)) in
     record {

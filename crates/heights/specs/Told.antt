@@ -4,7 +4,7 @@ use Rattle.day.specs.Bills.{Day, SetOff, total, Greatest, bound, Ring}
 use Rattle.setoff.specs.Promise.{left_by}
 use Rattle.heights.specs.Promise.{Fits}
 
--- what invoice e counts for: as many times its amount as the height of who owes it, and 1, are above the height of who is owed
+-- what invoice e counts for: its amount, as many times as the height of who owes it, and 1, are above the height of who is owed
 abbrev pub counted : Day → (ℕ → ℕ) → ℕ → ℕ
 counted d h e = d.amount e * ((h (d.from e) + 1) - h (d.to e))
 

@@ -1,5 +1,5 @@
 // The bound of heights: no set-off is above it.
-ghost use Rattle.std.specs.Prelude.{◌≡◌, ◌<◌, length};
+ghost use Rattle.std.specs.Prelude.{◌≡◌, ◌+◌, ◌-◌, ◌<◌, length};
 ghost use Rattle.day.specs.Bills.{reads};
 ghost use Rattle.setoff.specs.Rows.{day_in};
 ghost use Rattle.heights.specs.Rows.{Answers};
@@ -8,18 +8,24 @@ ghost use Rattle.heights.specs.Told.{counted, Bounds};
 use crate::low::Heights;
 use setoff::{Invoices, Misfit};
 
+// How many times an invoice counts: as much as the height of who owes it, and one, are above the height of who is owed.
+fn times(from: u16, to: u16) -> u64
+    ensures { result ≡ (from + 1) - to }
+{
+    (u64::from(from) + 1).saturating_sub(u64::from(to))
+}
+
 impl Heights<'_> {
-    // What an invoice counts for: as many times its amount as the height of who owes it, and one, are above the height of who is owed.
+    // What an invoice counts for.
     fn counted(self, invoices: Invoices, e: usize) -> u64
         requires { (self.firms ≡ invoices.firms) × (e < length invoices.from.now) }
         ensures { result ≡ counted (day_in invoices.entry) (reads self.entry.of_firm.now) e }
     {
-        let from = self.of(invoices.from[e]);
-        let to = self.of(invoices.to[e]);
-        invoices.amount[e] * (u64::from(from) + 1).saturating_sub(u64::from(to))
+        invoices.amount[e] * times(self.of(invoices.from[e]), self.of(invoices.to[e]))
     }
 
     // Adds up a day's invoices, of which there are few enough to stay below 2^63.
+    // It goes by the invoices' numbers, since a zip of the three rows takes a fifth longer.
     fn add_up(self, invoices: Invoices) -> u64
         requires { self.firms ≡ invoices.firms }
         ensures { Bounds (day_in invoices.entry) (reads self.entry.of_firm.now) result }

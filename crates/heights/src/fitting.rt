@@ -22,7 +22,7 @@ impl Heights<'_> {
         (cents >= amount || from < to) && (cents == 0 || u32::from(to) <= u32::from(from) + 1)
     }
 
-    // Whether each invoice is such a one. A zip of the four rows takes half as long again.
+    // Whether each invoice is such a one. It goes by their numbers, since a zip of the four rows takes more than twice as long.
     fn fits_each(self, struck: Struck) -> bool
         requires { self.firms ≡ struck.invoices.firms }
         ensures { Judges (day_in struck.entry.invoices) (cents_in struck.entry) (reads self.entry.of_firm.now) result }

@@ -1,13 +1,11 @@
 -- The sum of what the invoices count for is the bound.
-use Rattle.std.proofs.Common.{◌≡◌, ℕ, ◌*◌, ◌^◌, ◌<◌, ◌≤◌, length, map, sum, refl, sym, ◌∙◌, arith, rules, tests}
-use Rattle.std.specs.List.{range_with_len}
+use Rattle.std.proofs.Common.{length, refl, arith, rules}
 use Rattle.std.proofs.lemmas.Iterator.{YieldsList-from_range, YieldsList-from_map}
 use Rattle.std.proofs.lemmas.Iterator.Consumers.{YieldsList-at, sum_from_yields_List, fits_from_yields_list}
-use Rattle.day.specs.Bills.{reads, span}
+use Rattle.day.specs.Bills.{reads}
 use Rattle.setoff.specs.Rows.{day_in}
 use Rattle.heights.specs.Told.{counted}
 use Rattle.heights.proofs.Counted.{bounds}
-use Rattle.heights.proofs.Ranges.{span_range}
 use Rattle.heights.proofs.low.Heights.add_up.Goals as goal
 
 pub sum-requires-clause-fits : goal.sum-requires-clause-fits
