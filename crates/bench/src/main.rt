@@ -5,10 +5,10 @@
 mod clock;
 mod sums;
 
-use anyhow::{Result, anyhow};
+use anyhow::{Result, ensure};
 use clock::time;
 use day::{Invoice, MOST_CENTS, MOST_FIRMS, MOST_INVOICES, Room};
-use std::alloc::{AllocError, Global};
+use std::alloc::Global;
 
 const AMPLE: Room = Room {
     invoices: MOST_INVOICES,
@@ -17,7 +17,7 @@ const AMPLE: Room = Room {
 };
 
 // As many invoices as a day may have, spread over all firms.
-fn largest(heap: Global) -> std::result::Result<Vec<Invoice>, AllocError> {
+fn largest(heap: Global) -> Result<Vec<Invoice>> {
     let mut invoices = Vec::new(heap);
     let mut seed = 1u64;
     for _ in 0..MOST_INVOICES {
@@ -43,9 +43,8 @@ fn main(rt: HostRuntime) -> Result<()> {
     let mut to = vec![in heap; 0u16; MOST_INVOICES]?;
     let mut amount = vec![in heap; 0u64; MOST_INVOICES]?;
     time(&rt, "read", || {
-        day::read(&file, &mut from, &mut to, &mut amount, AMPLE).map_err(|_| anyhow!(
-            "the day was refused"
-        ))?;
+        let answer = day::read(&file, &mut from, &mut to, &mut amount, AMPLE);
+        ensure!(answer.is_ok(), "the day was refused");
         Ok(())
     })?;
     let nothing = vec![in heap; 0u64; MOST_INVOICES]?;
