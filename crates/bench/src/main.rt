@@ -5,10 +5,12 @@
 mod clock;
 mod sums;
 
-use anyhow::{Result, ensure};
+use anyhow::{Context, Result, ensure};
 use clock::time;
 use day::{Invoice, MOST_CENTS, MOST_FIRMS, MOST_INVOICES, Room};
+use setoff::Invoices;
 use std::alloc::Global;
+use sums::time_sums;
 
 const AMPLE: Room = Room {
     invoices: MOST_INVOICES,
@@ -37,8 +39,8 @@ fn largest(heap: Global) -> Result<Vec<Invoice>> {
 
 fn main(rt: HostRuntime) -> Result<()> {
     let heap = rt.alloc();
-    let invoices = largest(heap)?;
-    let file = day::write(heap, MOST_FIRMS, &invoices)?;
+    let written = largest(heap)?;
+    let file = day::write(heap, MOST_FIRMS, &written)?;
     let mut from = vec![in heap; 0u16; MOST_INVOICES]?;
     let mut to = vec![in heap; 0u16; MOST_INVOICES]?;
     let mut amount = vec![in heap; 0u64; MOST_INVOICES]?;
@@ -47,7 +49,10 @@ fn main(rt: HostRuntime) -> Result<()> {
         ensure!(answer.is_ok(), "the day was refused");
         Ok(())
     })?;
+    let invoices = Invoices::new(MOST_FIRMS, &from, &to, &amount).context(
+        "the rows are not sound",
+    )?;
     let nothing = vec![in heap; 0u64; MOST_INVOICES]?;
     let heights = vec![in heap; 0u16; MOST_FIRMS as usize]?;
-    sums::time_sums(&rt, &from, &to, &amount, &nothing, &heights)
+    time_sums(&rt, invoices, &nothing, &heights)
 }
