@@ -1,11 +1,11 @@
 -- A row with a place for each firm, in which the firms' two sums are added up invoice by invoice. Assumes nothing.
-use Rattle.std.proofs.Common.{◌≡◌, ℕ, ◌+◌, ◌<◌, ◌≢◌, List, length, set, slice_index_or, sym, refl, ap, ◌∙◌, inl, inr, arith}
-use Rattle.std.proofs.lemmas.List.{get_or-set_same, get_or-set_other, length-set}
+use Rattle.std.proofs.Common.{◌≡◌, ℕ, ◌+◌, ◌<◌, ◌≢◌, List, length, replicate, set, slice_index_or, sym, refl, ap, ◌∙◌, inl, inr, arith}
+use Rattle.std.proofs.lemmas.List.{get_or-set_same, get_or-set_other, length-set, get_or-replicate}
 use Rattle.std.proofs.lemmas.Bool.{cases_eq}
 use Rattle.day.specs.Bills.{reads}
 use Rattle.setoff.specs.declared.evenness.Sums.{Sums}
 use Rattle.setoff.specs.declared.struck.Struck.{Struck}
-use Rattle.setoff.proofs.Portions.{share, share_same, share_other}
+use Rattle.setoff.proofs.Portions.{share, share_none, share_same, share_other}
 
 -- a row with a place for each firm of the largest day shows f: at each place, f of the place
 pub record Shows (f : ℕ → Sums) (row : List Sums) : Type 0 where
@@ -29,6 +29,20 @@ shows_set f g row p x shows there here rest =
         | inl same ↦ ap (λ u. slice_index_or (set row p x) u other) same ∙ get_or-set_same row p x other (omega arith) ∙ here ∙ ap g (sym same)
         | inr away ↦ get_or-set_other row p v x other away ∙ shows.at v other h ∙ rest v away
       ];
+    }
+
+-- before the first invoice all sums are 0
+abbrev pub no_sums : Sums
+no_sums = record { let_off = 0; lets_off = 0 }
+
+pub shows_none : (s : Struck) → Shows (sums_of s 0 0) (replicate 512 no_sums)
+shows_none s =
+    record {
+      places = refl;
+      at = λ v other h.
+          let from = share_none (reads s.invoices.from.now) (reads s.cents.now) v in
+          let to = share_none (reads s.invoices.to.now) (reads s.cents.now) v in
+          get_or-replicate 512 v no_sums other h ∙ cc;
     }
 
 -- both firms of an invoice have a place
