@@ -1,6 +1,6 @@
 -- The worked days hold: one test for all of them, which is computed, and what follows from it. Assumes nothing.
 use Rattle.std.proofs.Common.{◌≡◌, ℕ, zero, suc, ◌+◌, ◌-◌, ◌*◌, ◌^◌, ◌<◌, ◌≤◌, Bool, true, false, not, ◌&&◌, ◌||◌, eqb, ltb, leb, List, [], ◌∷◌, length, refl, ap, ◌∙◌, inl, inr, arith}
-use Rattle.std.specs.List.{AllByRecursion}
+use Rattle.std.specs.List.{list_all, AllByRecursion}
 use Rattle.std.proofs.lemmas.Bool.{cases_eq, eqb-true, eqb-false, ltb-true, leb-true, and_parts, or_cases, not-true}
 use Rattle.day.specs.Bills.{Day, Sound, day_of, pick, span, reads, let_off, lets_off, SetOff, total, bound}
 use Rattle.day.specs.File.{debtors, creditors, amounts}
@@ -34,8 +34,7 @@ some_at test (suc k) found = elim (or_cases (test k) (some test k) found) [
 
 -- every test of a list passed
 abbrev all_of : List Bool → Bool
-all_of [] = true
-all_of (b ∷ bs) = b && all_of bs
+all_of = list_all (λ b. b)
 
 abbrev EachTrue : List Bool → Type 0
 EachTrue [] = Unit {0}
@@ -150,17 +149,12 @@ holds w passed =
     all_shown w.firms (length w.invoices) (reads (debtors w.invoices)) (reads (creditors w.invoices)) (reads (amounts w.invoices)) (reads w.struck)
     (reads w.heights) w.in_all (each_true (tests_of w) passed)
 
-all_pass : List Worked → Bool
-all_pass [] = true
-all_pass (w ∷ ws) = all_of (tests_of w) && all_pass ws
-
-all_hold : (ws : List Worked) → all_pass ws ≡ true → AllByRecursion Holds ws
-unfolding all_pass
+all_hold : (ws : List Worked) → list_all (λ w. all_of (tests_of w)) ws ≡ true → AllByRecursion Holds ws
 all_hold [] passed = tt
 all_hold (w ∷ ws) passed =
-    let parts = and_parts (all_of (tests_of w)) (all_pass ws) passed in
+    let parts = and_parts (all_of (tests_of w)) (list_all (λ w. all_of (tests_of w)) ws) passed in
     (holds w parts.0, all_hold ws parts.1)
 
 pub worked_days : WorkedDays
-unfolding WorkedDays all_pass reached every some span
+unfolding WorkedDays reached every some span
 worked_days = all_hold worked refl
