@@ -1,38 +1,24 @@
 -- At each invoice two places grow, that of the firm that owes and that of the firm that is owed; then two sums that differ are looked for.
-use Rattle.std.proofs.Common.{rules, ◌≡◌, ℕ, ◌≢◌, ◌<◌, length, slice_index_or, ap, ◌∙◌, refl, arith}
+use Rattle.std.proofs.Common.{rules, ◌≡◌, ℕ, ◌≢◌, ◌<◌, length, slice_index_or, ap, ◌∙◌, arith}
 use Rattle.std.proofs.lemmas.Iterator.{first_from_Range}
 use borrow.Author.Tests.{tests}
-use Rattle.day.specs.Bills.{reads, let_off, lets_off}
+use Rattle.day.specs.Bills.{let_off, lets_off}
 use Rattle.setoff.specs.Rows.{day_in, cents_in}
-use Rattle.setoff.specs.declared.evenness.Sums.{Sums}
-use Rattle.setoff.proofs.Portions.{more_fits}
 use Rattle.setoff.proofs.Positions.{first_evenness}
-use Rattle.setoff.proofs.Tallies.{sums_of, no_sums, shows_none, from_placed, to_placed, owing_more, owed_more}
+use Rattle.setoff.proofs.Tallies.{sums_of, no_sums, shows_none, owing_more, owed_more, owing_fits, owed_fits}
 use Rattle.setoff.proofs.struck.Struck.first_uneven.Goals as goal
 
 pub loop-e-init : goal.loop-e-init
 loop-e-init c = shows_none c.args.self
 
 pub overflow_add-sums : goal.overflow_add-sums
-overflow_add-sums c =
-    let s = c.args.self in
-    let e = c.loop-e.e in
-    let is = ap (λ (x : Sums). x.let_off) (c.loop-e.invariant.at (reads s.invoices.from.now e) no_sums (from_placed s e (omega arith))) in
-    omega (arith, more_fits s (reads s.invoices.from.now) (reads s.invoices.from.now e) e (omega arith) refl)
+overflow_add-sums c = owing_fits c.args.self c.loop-e.sums c.loop-e.e no_sums (omega arith) c.loop-e.invariant
 
 pub overflow_add-sums-in-loop-e : goal.overflow_add-sums-in-loop-e
-overflow_add-sums-in-loop-e c =
-    let s = c.args.self in
-    let e = c.loop-e.e in
-    let grown = owing_more s c.loop-e.sums e no_sums (omega arith) c.loop-e.invariant in
-    let is = ap (λ (x : Sums). x.lets_off) (grown.at (reads s.invoices.to.now e) no_sums (to_placed s e (omega arith))) in
-    omega (arith, more_fits s (reads s.invoices.to.now) (reads s.invoices.to.now e) e (omega arith) refl)
+overflow_add-sums-in-loop-e c = owed_fits c.args.self _ c.loop-e.e no_sums (omega arith) (owing_more c.args.self c.loop-e.sums c.loop-e.e no_sums (omega arith) c.loop-e.invariant)
 
 pub loop-e-preserved : goal.loop-e-preserved
-loop-e-preserved c =
-    let s = c.args.self in
-    let e = c.loop-e.e in
-    owed_more s _ e no_sums (omega arith) (owing_more s c.loop-e.sums e no_sums (omega arith) c.loop-e.invariant)
+loop-e-preserved c = owed_more c.args.self _ c.loop-e.e no_sums (omega arith) (owing_more c.args.self c.loop-e.sums c.loop-e.e no_sums (omega arith) c.loop-e.invariant)
 
 pub returns : goal.returns
 unfolding let_off lets_off
