@@ -43,14 +43,14 @@ few_apart u k n there apart =
     let long : length xs ≡ k = length-map-range_with_len u 0 k in
     let at : (i d : ℕ) → i < k → get_or xs i d ≡ u i = λ i d l. get_or-map-range_with_len u 0 k i i d l (omega arith) in
     let distinct : IsDistinct eqb xs =
-        IsDistinct-from_apart eqb xs
-        (λ i j d l m.
-        let last : j < k = omega arith in
-        ne_eqb (get_or xs i d) (get_or xs j d) (λ e. apart i j l last (sym (at i d (omega arith)) ∙ e ∙ at j d last))) in
+    IsDistinct-from_apart eqb xs
+    (λ i j d l m.
+    let last : j < k = omega arith in
+    ne_eqb (get_or xs i d) (get_or xs j d) (λ e. apart i j l last (sym (at i d (omega arith)) ∙ e ∙ at j d last))) in
     let below : (q : ℕ) → list_any (eqb q) xs ≡ true → q < n =
-        λ q any.
-        let (i, x, l, is, same) = Any-from_list_any (eqb q) xs any in
-        omega (arith, eqb-true q x same, is, at i x (omega arith), there i (omega arith)) in
+    λ q any.
+    let (i, x, l, is, same) = Any-from_list_any (eqb q) xs any in
+    omega (arith, eqb-true q x same, is, at i x (omega arith), there i (omega arith)) in
     omega (arith, long, length-le_from_distinct_below xs n distinct below)
 
 pub repeats : (u : ℕ → ℕ) (k n : ℕ) → ((j : ℕ) → j < k → u j < n) → n < k → Repeat u k
