@@ -8,16 +8,20 @@ use Rattle.setoff.proofs.Tallies.{sums_of, no_sums, shows_none, owing_more, owed
 use Rattle.setoff.proofs.struck.Struck.first_uneven.Goals as goal
 
 pub loop-e-init : goal.loop-e-init
-loop-e-init c = shows_none c.args.self
+loop-e-init c = rw (c.default-sums.ensures.0, c.default-sums.ensures.1) (shows_none c.args.self)
 
 pub overflow_add-sums : goal.overflow_add-sums
-overflow_add-sums c = owing_fits c.args.self c.loop-e.sums c.loop-e.e no_sums (omega arith) c.loop-e.invariant
+overflow_add-sums c = rw c.from.ensures (owing_fits c.args.self c.loop-e.sums c.loop-e.e no_sums (omega arith) c.loop-e.invariant)
 
 pub overflow_add-sums-in-loop-e : goal.overflow_add-sums-in-loop-e
-overflow_add-sums-in-loop-e c = owed_fits c.args.self _ c.loop-e.e no_sums (omega arith) (owing_more c.args.self c.loop-e.sums c.loop-e.e no_sums (omega arith) c.loop-e.invariant)
+overflow_add-sums-in-loop-e c =
+    rw (c.from.ensures, c.from-in-loop-e.ensures)
+    (owed_fits c.args.self _ c.loop-e.e no_sums (omega arith) (owing_more c.args.self c.loop-e.sums c.loop-e.e no_sums (omega arith) c.loop-e.invariant))
 
 pub loop-e-preserved : goal.loop-e-preserved
-loop-e-preserved c = owed_more c.args.self _ c.loop-e.e no_sums (omega arith) (owing_more c.args.self c.loop-e.sums c.loop-e.e no_sums (omega arith) c.loop-e.invariant)
+loop-e-preserved c =
+    rw (c.from.ensures, c.from-in-loop-e.ensures)
+    (owed_more c.args.self _ c.loop-e.e no_sums (omega arith) (owing_more c.args.self c.loop-e.sums c.loop-e.e no_sums (omega arith) c.loop-e.invariant))
 
 pub returns : goal.returns
 unfolding let_off lets_off
