@@ -23,7 +23,7 @@ impl<'d, 'h> Heights<'d, 'h> {
             (λ m. Misfits invoices.entry.firms (λ _. invoices.entry.firms) of_firm.now m) }
     {
         let firms = invoices.firms;
-        if of_firm.len() != firms as usize {
+        if of_firm.len() != usize::from(firms) {
             return Err(Misfit::Length(of_firm.len()));
         }
         match of_firm.iter().position(|height| *height > firms) {
@@ -37,6 +37,6 @@ impl<'d, 'h> Heights<'d, 'h> {
         requires { firm < self.invoices.firms }
         ensures { result ≡ reads self.entry.of_firm.now firm }
     {
-        self.of_firm[firm as usize]
+        self.of_firm[usize::from(firm)]
     }
 }

@@ -2,11 +2,13 @@
 ghost use Rattle.setoff.specs.Promise.{PositionKept, Apart};
 
 // A set-off keeps each firm's position: what it owes in all, less what it is owed in all.
+#[tactic(auto, using(crate::proofs::Positions::position_kept))]
 fn positions_are_kept()
     ensures { PositionKept }
 {}
 
 // Where invoices fall apart into two sorts without a common firm, a greatest set-off is greatest for either sort.
+#[tactic(auto, using(crate::proofs::Sorts::apart))]
 fn sorts_clear_apart()
     ensures { Apart }
 {}
