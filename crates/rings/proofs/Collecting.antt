@@ -27,18 +27,20 @@ module _ (tail last : ℕ → ℕ) (start : ℕ) where
       pub on : last at ≢ 0
       on e = r.long m early (ap last (sym so_far.here) ∙ e)
 
-    module _ (n : ℕ) (r : Returns n tail last start) (each : length ring ≡ n) (step next : ℕ) (is : step ≡ last at - 1) (leads : next ≡ tail (last at - 1)) where
+    module _ (n : ℕ) (r : Returns n tail last start) (each : length ring ≡ n) (step next : ℕ) (is : last at ≡ suc step) (leads : next ≡ tail step) where
       written : (j : ℕ) → j < m + 1 → last (back tail last start j) ≡ suc (reads (set ring m step) j)
       written j l = elim (cases_eq j m) [
         | inl same ↦
-            ap (λ i. last (back tail last start i)) same ∙ ap last (sym so_far.here)
-            ∙ (let some = on n r in let e : last at ≡ suc step = omega arith in e)
+            ap (λ i. last (back tail last start i)) same ∙ ap last (sym so_far.here) ∙ is
             ∙ ap suc (sym (ap (reads (set ring m step)) same ∙ get_or-set_same ring m step 0 (omega (arith, room n r))))
         | inr other ↦ so_far.steps j (omega arith) ∙ ap suc (sym (get_or-set_other ring m j step 0 other))
       ]
 
       further : next ≡ back tail last start (m + 1)
-      further = let e : suc m ≡ m + 1 = omega arith in leads ∙ ap (λ v. tail (last v - 1)) so_far.here ∙ ap (back tail last start) e
+      further =
+          let e : suc m ≡ m + 1 = omega arith in
+          let taken : step ≡ last at - 1 = omega arith in
+          leads ∙ ap tail taken ∙ ap (λ v. tail (last v - 1)) so_far.here ∙ ap (back tail last start) e
 
       pub collects_more : next ≢ start → Collecting tail last start (m + 1) next (set ring m step)
       collects_more other =

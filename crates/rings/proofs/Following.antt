@@ -58,10 +58,12 @@ module _ (n : ℕ) (tail last : ℕ → ℕ) (v : ℕ) where
           long = λ t l e. whole.long ((n + t) - period) (omega arith) (ap last (sym (from_there t ∙ earlier (n + t) (omega arith))) ∙ e);
         }
 
-  pub leads_more : (j at next : ℕ) → Leading n tail last v j at → last at ≢ 0 → next ≡ tail (last at - 1) → next < n → Leading n tail last v (j + 1) next
-  leads_more j at next so_far some leads below =
+  pub leads_more : (j at step next : ℕ) → Leading n tail last v j at → last at ≡ suc step → next ≡ tail step → next < n → Leading n tail last v (j + 1) next
+  leads_more j at step next so_far is leads below =
       let e : suc j ≡ j + 1 = omega arith in
-      let further : next ≡ back tail last v (j + 1) = leads ∙ ap (λ w. tail (last w - 1)) so_far.here ∙ ap (back tail last v) e in
+      let taken : step ≡ last at - 1 = omega arith in
+      let some : last at ≢ 0 = omega arith in
+      let further : next ≡ back tail last v (j + 1) = leads ∙ ap tail taken ∙ ap (λ w. tail (last w - 1)) so_far.here ∙ ap (back tail last v) e in
       record {
         here = further;
         there = λ t l. elim (cases_eq t (j + 1)) [

@@ -19,6 +19,13 @@ pub record Opposite (S : Steps) (i j : ℕ) : Type 0 where
   pub up : S.up j ≡ S.down i
   pub down : S.down j ≡ S.up i
 
+-- nodes are there, the steps of an arc are opposite, and none gains more than a cent
+pub record Lawful (S : Steps) : Type 0 where
+  pub tails : (f : ℕ) → f < S.steps → S.tail f < S.nodes
+  pub heads : (f : ℕ) → f < S.steps → S.head f < S.nodes
+  pub turn : (e : ℕ) → Opposite S (2 * e) (2 * e + 1)
+  pub small : (f : ℕ) → S.up f ≤ 1
+
 module _ (S : Steps) where
   -- a step that has just raised its head leaves nothing to gain on the way back
   back_fitted : (i j : ℕ) (num num' : List ℤ) (last last' : List ℕ) (v : ℕ) → Opposite S i j → length num ≡ S.nodes → v < S.nodes →
@@ -34,7 +41,7 @@ module _ (S : Steps) where
       ] in
       omega (arith, turn.up, turn.down)
 
-  module _ (k e : ℕ) (turn : Opposite S (2 * e) (2 * e + 1)) (heads : (f : ℕ) → f < S.steps → S.head f < S.nodes) where
+  module _ (k e : ℕ) (law : Lawful S) where
     pub arc_on : (num num' : List ℤ) (last last' : List ℕ) (r before : Option ℕ) → length num ≡ S.nodes → length last ≡ S.nodes →
         ArcTried S e num num' last last' r → Going S k (2 * e) (levels num) (reads last) before → Going S k (2 * (e + 1)) (levels num') (reads last') (later r before)
     arc_on num num' last last' r before each each' tried going = elim tried [
@@ -43,7 +50,7 @@ module _ (S : Steps) where
           let even : suc (2 * e) ≡ 2 * e + 1 = omega arith in
           let next : suc (2 * e + 1) ≡ 2 * (e + 1) = omega arith in
           subst (λ i. Going S k i (levels num') (reads last') (later r before)) next
-          (tries_on S k (2 * e + 1) num num' last last' r before each each' heads second
+          (tries_on S k (2 * e + 1) num num' last last' r before each each' law.heads second
           (subst (λ i. Going S k i (levels num) (reads last) before) even (passes_on S k (2 * e) (levels num) (reads last) before fitted going)))
     ]
       where
@@ -52,11 +59,11 @@ module _ (S : Steps) where
         along (Some v) some first =
             let even : suc (2 * e) ≡ 2 * e + 1 = omega arith in
             let next : suc (suc (2 * e)) ≡ 2 * (e + 1) = omega arith in
-            let below : v < S.nodes = subst (λ w. w < S.nodes) (sym first.node) (heads (2 * e) first.there.0) in
-            let fitted = back_fitted (2 * e) (2 * e + 1) num num' last last' v turn each below first in
+            let below : v < S.nodes = subst (λ w. w < S.nodes) (sym first.node) (law.heads (2 * e) first.there.0) in
+            let fitted = back_fitted (2 * e) (2 * e + 1) num num' last last' v (law.turn e) each below first in
             subst (λ i. Going S k i (levels num') (reads last') (Some v)) next
             (passes_on S k (suc (2 * e)) (levels num') (reads last') (Some v) (λ o. subst (λ g. Fitted S (levels num') g) (sym even) fitted)
-            (tries_on S k (2 * e) num num' last last' (Some v) before each each' heads first going))
+            (tries_on S k (2 * e) num num' last last' (Some v) before each each' law.heads first going))
 
   module _ (k i : ℕ) (num last : ℕ → ℕ) (at : Searched S k i num last) where
     -- last steps are steps
@@ -86,14 +93,14 @@ module _ (S : Steps) where
           gains = chain_gains S num at.when at.rank u steps m ring.some links tails ring.closes;
         }
 
-    module _ (tails : (f : ℕ) → f < S.steps → S.tail f < S.nodes) where
+    module _ (law : Lawful S) where
       -- last steps don't end behind a node that was raised in a round as late as there are nodes, or to such a number
       pub late_goes_on : (v : ℕ) → S.nodes ≤ at.when v → Ends S.nodes S.tail last v → ⊥
       late_goes_on v late end =
-          (when_back S tails k i num last at v S.nodes late).1 end.at end.few (ap last (sym (back-along S last v end.at)) ∙ end.root)
+          (when_back S law.tails k i num last at v S.nodes late).1 end.at end.few (ap last (sym (back-along S last v end.at)) ∙ end.root)
 
-      pub high_goes_on : ((f : ℕ) → S.up f ≤ 1) → (v : ℕ) → S.nodes ≤ num v → Ends S.nodes S.tail last v → ⊥
-      high_goes_on small v high end =
+      pub high_goes_on : (v : ℕ) → S.nodes ≤ num v → Ends S.nodes S.tail last v → ⊥
+      high_goes_on v high end =
           let long = λ (t : ℕ) (l : t < end.at) (root : last (back_by S last v t) ≡ 0). end.long t l (ap last (back-along S last v t) ∙ root) in
           let root = ap last (sym (back-along S last v end.at)) ∙ end.root in
-          omega (arith, risen S tails k i num last at small v end.at long, (at.root (back_by S last v end.at) root).0, end.few)
+          omega (arith, risen S law.tails k i num last at law.small v end.at long, (at.root (back_by S last v end.at) root).0, end.few)

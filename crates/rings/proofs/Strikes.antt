@@ -1,31 +1,32 @@
 -- Cents pushed along one step, written in a row; and that a ring that gains can take them. Assumes nothing.
-use Rattle.std.proofs.Common.{◌≡◌, ℕ, suc, ◌+◌, ◌-◌, ◌/◌, ◌%◌, ◌^◌, ◌<◌, ◌≤◌, Bool, true, false, ◌≢◌, List, length, set, sym, refl, ap, ◌∙◌, inl, inr, arith}
-use Rattle.std.proofs.lemmas.List.{get_or-set_same, get_or-set_other}
+use Rattle.std.proofs.Common.{◌≡◌, ℕ, suc, ◌+◌, ◌-◌, ◌/◌, ◌%◌, ◌^◌, ◌<◌, ◌≤◌, Bool, true, false, ◌≢◌, List, length, set, take, sym, refl, ap, ◌∙◌, subst, inl, inr, arith}
+use Rattle.std.proofs.lemmas.List.{get_or-set_same, get_or-set_other, get_or-take, length-take-le}
 use Rattle.std.proofs.lemmas.Bool.{cases_eq, eq-eqb, ne_eqb}
 use Rattle.day.specs.Bills.{pick, reads}
+use Rattle.setoff.proofs.Spans.{span_ext}
 use Rattle.heights.specs.Network.{Network}
-use Rattle.heights.specs.Residual.{along, room_of, residual, Gaining, pushed, pushed_all}
+use Rattle.heights.specs.Residual.{Steps, Open, along, room_of, residual, Gaining, pushed, pushed_all}
 use Rattle.heights.proofs.Pushing.{pushed_at, pushed_other, rooms_ahead}
 use Rattle.rings.specs.Striking.{Holds, Pushable}
 
-module _ (flow : List ℕ) (f c x : ℕ) (there : f / 2 < length flow) (new : x ≡ pick (along f) (reads flow (f / 2) + c) (reads flow (f / 2) - c)) where
-  pub pushed-set : reads (set flow (f / 2) x) ≡ pushed (reads flow) f c
-  pushed-set = λ i e. at e i
+module _ (flow : List ℕ) (f c e x : ℕ) (arc : e ≡ f / 2) (there : e < length flow) (new : x ≡ pick (along f) (reads flow e + c) (reads flow e - c)) where
+  pub pushed-set : reads (set flow e x) ≡ pushed (reads flow) f c
+  pushed-set = λ i p. at p i
     where
-      at : (e : ℕ) → reads (set flow (f / 2) x) e ≡ pushed (reads flow) f c e
-      at e = elim (cases_eq e (f / 2)) [
+      at : (p : ℕ) → reads (set flow e x) p ≡ pushed (reads flow) f c p
+      at p = elim (cases_eq p e) [
         | inl same ↦
-            ap (reads (set flow (f / 2) x)) same ∙ get_or-set_same flow (f / 2) x 0 there ∙ new
-            ∙ sym (ap (pushed (reads flow) f c) same ∙ pushed_at (reads flow) f c (f / 2) refl)
-        | inr other ↦ get_or-set_other flow (f / 2) e x 0 other ∙ sym (pushed_other (reads flow) f c e other)
+            ap (reads (set flow e x)) same ∙ get_or-set_same flow e x 0 there ∙ new
+            ∙ sym (ap (pushed (reads flow) f c) same ∙ pushed_at (reads flow) f c e arc)
+        | inr other ↦ get_or-set_other flow e p x 0 other ∙ sym (pushed_other (reads flow) f c p (λ q. other (q ∙ sym arc)))
       ]
 
   -- one step more
-  pub pushed_more : (s at : ℕ → ℕ) (j : ℕ) → f ≡ at j → reads flow ≡ pushed_all s at c j → reads (set flow (f / 2) x) ≡ pushed_all s at c (j + 1)
+  pub pushed_more : (s at : ℕ → ℕ) (j : ℕ) → f ≡ at j → reads flow ≡ pushed_all s at c j → reads (set flow e x) ≡ pushed_all s at c (j + 1)
   unfolding pushed_all
   pushed_more s at j step so_far =
-      let e : suc j ≡ j + 1 = omega arith in
-      pushed-set ∙ ap (λ g. pushed (reads flow) g c) step ∙ ap (λ q. pushed q (at j) c) so_far ∙ ap (pushed_all s at c) e
+      let one : suc j ≡ j + 1 = omega arith in
+      pushed-set ∙ ap (λ g. pushed (reads flow) g c) step ∙ ap (λ q. pushed q (at j) c) so_far ∙ ap (pushed_all s at c) one
 
 pub pushed_none : (s at : ℕ → ℕ) (c : ℕ) → s ≡ pushed_all s at c 0
 unfolding pushed_all
@@ -51,6 +52,24 @@ narrowed N s least m c u at ring room =
       apart = ring.apart;
       gains = ring.gains;
     }
+
+-- the ring as it stands in the row's first m places, which are the whole of a shorter row
+pub shortened : (S : Steps) (m : ℕ) (u : ℕ → ℕ) (ring : List ℕ) → m ≤ length ring → Gaining S m u (reads ring) → Gaining S (length (take m ring)) u (reads (take m ring))
+shortened S m u ring fits found = subst (λ k. Gaining S k u at) (sym (length-take-le m ring fits)) record {
+  some = found.some;
+  there = λ j l. subst (Open S) (sym (same j l)) (found.there j l);
+  heads = λ j l. ap S.head (same j l) ∙ found.heads j l;
+  tails = λ j l. ap S.tail (same j l) ∙ found.tails j l;
+  closed = found.closed;
+  apart = found.apart;
+  gains = rw (span_ext (λ j. S.down (at j)) (λ j. S.down (reads ring j)) m (λ j l. ap S.down (same j l)), span_ext (λ j. S.up (at j)) (λ j. S.up (reads ring j)) m (λ j l. ap S.up (same j l))) found.gains;
+}
+  where
+    at : ℕ → ℕ
+    at = reads (take m ring)
+
+    same : (j : ℕ) → j < m → at j ≡ reads ring j
+    same j l = get_or-take m ring j 0 l
 
 pub pushable : (N : Network) (s : ℕ → ℕ) (m c : ℕ) (u at : ℕ → ℕ) → 1 ≤ c → ((e : ℕ) → e < N.arcs → N.capacity e < 2 ^ 64) → Gaining (residual N s c) m u at → Pushable N.arcs s at m c
 pushable N s m c u at some fits ring =

@@ -11,8 +11,8 @@ use Rattle.rings.specs.Chains.{Ends, Followed}
 use Rattle.rings.specs.Found.{Searches}
 use Rattle.rings.specs.Numbers.{natural, levels, Below}
 use Rattle.rings.specs.Tries.{Raised, ArcTried}
-use Rattle.rings.proofs.Going.{Going, later, searched}
-use Rattle.rings.proofs.Rounds.{Opposite, arc_on, late_goes_on, closed_gains}
+use Rattle.rings.proofs.Going.{Going, searched}
+use Rattle.rings.proofs.Rounds.{Lawful, arc_on, late_goes_on, high_goes_on, closed_gains}
 
 -- so many rounds have gone over all steps
 pub record Swept (S : Steps) (rounds : ℕ) (num : List ℤ) (last : List ℕ) : Type 0 where
@@ -27,7 +27,13 @@ pub record Sweeping (S : Steps) (rounds e : ℕ) (num : List ℤ) (last : List �
   pub each : length last ≡ S.nodes
   pub going : Going S (rounds + 1) (2 * e) (levels num) (reads last) raised
 
-module _ (S : Steps) where
+-- an arc has raised node v, to whatever number
+pub record Raising (S : Steps) (rounds e : ℕ) (num : List ℤ) (last : List ℕ) (v : ℕ) : Type 0 where
+  pub there : v < S.nodes
+  pub exact : get_or num v (pos 0) ≡ pos (levels num v)
+  pub kept : Searched S (rounds + 1) (2 * (e + 1)) (levels num) (reads last)
+
+module _ (S : Steps) (law : Lawful S) where
   pub swept_none : (num : List ℤ) (last : List ℕ) → 1 ≤ S.nodes → num ≡ replicate S.nodes (pos 0) → last ≡ replicate S.nodes 0 → Swept S 0 num last
   swept_none num last some clear clear' =
       let n = S.nodes in
@@ -69,9 +75,9 @@ module _ (S : Steps) where
     going_there e raised v is at = (subst (λ r. Going S (rounds + 1) (2 * e) (levels num) (reads last) r) is at.going).0
 
     -- a round more, with nothing raised or with last steps that end
-    pub swept_more : (e : ℕ) (raised : Option ℕ) → 2 * e ≡ S.steps → ((f : ℕ) → f < S.steps → S.tail f < S.nodes) →
+    pub swept_more : (e : ℕ) (raised : Option ℕ) → 2 * e ≡ S.steps →
         ((v : ℕ) → raised ≡ Some v → Ends S.nodes S.tail (reads last) v) → Sweeping S rounds e num last raised → Swept S (rounds + 1) num last
-    swept_more e raised all tails ends at =
+    swept_more e raised all ends at =
         record {
           numbers = at.numbers;
           each = at.each;
@@ -86,7 +92,7 @@ module _ (S : Steps) where
             Going S (rounds + 1) (2 * e) (levels num) (reads last) raised → AllFitted S (levels num)
         by None ends late (kept, fitted) = λ f o. fitted f o (subst (λ i. f < i) (sym all) o.0)
         by (Some v) ends late (there, (kept, now)) =
-            absurd (late_goes_on S (rounds + 1) (2 * e) (levels num) (reads last) kept tails v (omega (arith, now)) (ends v refl))
+            absurd (late_goes_on S (rounds + 1) (2 * e) (levels num) (reads last) kept law v (omega (arith, now)) (ends v refl))
 
     module _ (num' : List ℤ) (last' : List ℕ) (e : ℕ) where
       -- a raised node has an exact number, and where it is low, all are
@@ -116,49 +122,43 @@ module _ (S : Steps) where
       which : (v : ℕ) → ArcTried S e num num' last last' (Some v) → (i : ℕ) × Raised S i num num' last last' v
       which v tried = elim tried [ inl (some, first) ↦ (2 * e, first) | inr (fitted, second) ↦ (2 * e + 1, second) ]
 
-      module _ (heads : (f : ℕ) → f < S.steps → S.head f < S.nodes) where
-        raised_there : (i v : ℕ) → Raised S i num num' last last' v → v < S.nodes
-        raised_there i v up = subst (λ w. w < S.nodes) (sym up.node) (heads i up.there.0)
+      raised_there : (i v : ℕ) → Raised S i num num' last last' v → v < S.nodes
+      raised_there i v up = subst (λ w. w < S.nodes) (sym up.node) (law.heads i up.there.0)
 
-        pub tried_exact : (v : ℕ) → Below S.nodes S.nodes num → ArcTried S e num num' last last' (Some v) →
-            (v < S.nodes) × (get_or num' v (pos 0) ≡ pos (levels num' v))
-        tried_exact v low tried =
-            let (i, up) = which v tried in
-            let there = raised_there i v up in
-            (there, raised_exact i v low there up v there)
+      pub raising : (v : ℕ) (raised : Option ℕ) → ArcTried S e num num' last last' (Some v) → Sweeping S rounds e num last raised → Raising S rounds e num' last' v
+      raising v raised tried at =
+          let (i, up) = which v tried in
+          let there = raised_there i v up in
+          record {
+            there = there;
+            exact = raised_exact i v at.numbers there up v there;
+            kept = (arc_on S (rounds + 1) e law num num' last last' (Some v) raised at.numbers.each at.each tried at.going).1.0;
+          }
 
-        tried_below : (r : Option ℕ) → Below S.nodes S.nodes num → ArcTried S e num num' last last' r → ((v : ℕ) → r ≡ Some v → levels num' v < S.nodes) →
-            Below S.nodes S.nodes num' × (length last' ≡ length last)
-        tried_below (Some v) low tried here =
-            let (i, up) = which v tried in (
-              record {
-                each = ap length up.number ∙ length-set num v _ ∙ low.each;
-                exact = raised_exact i v low (raised_there i v up) up;
-                low = raised_low i v low up (here v refl);
-              },
-              ap length up.step ∙ length-set last v _,
-            )
-        tried_below None low tried here = elim tried [
-          | inl (some, first) ↦ absurd (false≢true some)
-          | inr (fitted, (same, same', _)) ↦ (subst (λ row. Below S.nodes S.nodes row) (sym same) low, ap length same')
-        ]
+      -- one arc more, which raised a node to a low number, or none
+      pub sweeping_raised : (v : ℕ) (raised : Option ℕ) → ArcTried S e num num' last last' (Some v) → levels num' v < S.nodes → Sweeping S rounds e num last raised →
+          Sweeping S rounds (e + 1) num' last' (Some v)
+      sweeping_raised v raised tried low at =
+          let (i, up) = which v tried in
+          record {
+            numbers = record {
+              each = ap length up.number ∙ length-set num v _ ∙ at.numbers.each;
+              exact = raised_exact i v at.numbers (raised_there i v up) up;
+              low = raised_low i v at.numbers up low;
+            };
+            each = ap length up.step ∙ length-set last v _ ∙ at.each;
+            going = arc_on S (rounds + 1) e law num num' last last' (Some v) raised at.numbers.each at.each tried at.going;
+          }
 
-        -- one arc more
-        pub sweeping_more : (r raised : Option ℕ) → Opposite S (2 * e) (2 * e + 1) → ArcTried S e num num' last last' r → ((v : ℕ) → r ≡ Some v → levels num' v < S.nodes) →
-            Sweeping S rounds e num last raised → Sweeping S rounds (e + 1) num' last' (later r raised)
-        sweeping_more r raised turn tried here at =
-            let (low, each) = tried_below r at.numbers tried here in
-            record {
-              numbers = low;
-              each = each ∙ at.each;
-              going = arc_on S (rounds + 1) e turn heads num num' last last' r raised at.numbers.each at.each tried at.going;
-            }
-
-        -- an arc that raised a node to whatever number
-        pub sweeping_raised : (v : ℕ) (raised : Option ℕ) → Opposite S (2 * e) (2 * e + 1) → ArcTried S e num num' last last' (Some v) → Sweeping S rounds e num last raised →
-            Searched S (rounds + 1) (2 * (e + 1)) (levels num') (reads last')
-        sweeping_raised v raised turn tried at =
-            (arc_on S (rounds + 1) e turn heads num num' last last' (Some v) raised at.numbers.each at.each tried at.going).1.0
+      pub sweeping_passed : (raised : Option ℕ) → ArcTried S e num num' last last' None → Sweeping S rounds e num last raised → Sweeping S rounds (e + 1) num' last' raised
+      sweeping_passed raised tried at = elim tried [
+        | inl (some, first) ↦ absurd (false≢true some)
+        | inr (fitted, (same, same', step)) ↦ record {
+          numbers = subst (λ row. Below S.nodes S.nodes row) (sym same) at.numbers;
+          each = ap length same' ∙ at.each;
+          going = arc_on S (rounds + 1) e law num num' last last' None raised at.numbers.each at.each (inr (fitted, (same, same', step))) at.going;
+        }
+      ]
 
   -- last steps that can't end lead into a ring that gains
   pub finds : (k i : ℕ) (num : List ℤ) (last ring : List ℕ) (v : ℕ) (r : Option ℕ) → Searched S k i (levels num) (reads last) →
@@ -166,3 +166,9 @@ module _ (S : Steps) where
   finds k i num last ring v None at end never = absurd (never end)
   finds k i num last ring v (Some m) at (few, (start, closed)) never =
       (few, (back S.tail (reads last) start, closed_gains S k i (levels num) (reads last) at start m (reads ring) closed))
+
+  -- as last steps can't that lead back from a number as high as there are nodes
+  pub finds_high : (rounds e : ℕ) (num : List ℤ) (last ring : List ℕ) (v : ℕ) (r : Option ℕ) → Raising S rounds e num last v → S.nodes ≤ levels num v →
+      Followed S.nodes S.tail (reads last) v ring r → Searches S num last ring r
+  finds_high rounds e num last ring v r up high follows =
+      finds (rounds + 1) (2 * (e + 1)) num last ring v r up.kept follows (high_goes_on S (rounds + 1) (2 * (e + 1)) (levels num) (reads last) up.kept law v high)

@@ -9,26 +9,28 @@ use Rattle.greatest.proofs.settling.settle.Goals as goal
 pub climb_in_scales-requires : goal.climb_in_scales-requires
 climb_in_scales-requires c =
     record {
-      rows = record { flow_each = c.requires.rows.struck_each; number_each = c.requires.rows.number_each; last_each = c.requires.rows.last_each; ring_each = c.requires.rows.ring_each };
+      rows = record { flow_each = c.requires.rows.struck_each; rows_each = c.requires.rows.scratch_each };
       even = circulation (day_in c.args.invoices) _ _ (reads c.args.struck.now) c.requires.set;
     }
 
 pub total_of-requires : goal.total_of-requires
 total_of-requires c =
     record {
-      set = set_off (day_in c.args.invoices) _ _ (reads c.climb_in_scales.new.flow) c.climb_in_scales.ensures.even;
+      set = set_off (day_in c.args.invoices) _ _ (reads c.climb_in_scales.new.flow) c.climb_in_scales.ensures.climbed.even;
       each = omega (arith, c.requires.rows.struck_each);
     }
 
-pub returns : goal.returns
-returns c =
+pub returns-clause-settled : goal.returns-clause-settled
+returns-clause-settled c =
+    settles (day_in c.args.invoices) _ _ c.args.struck.now c.climb_in_scales.new.flow c.write_heights.new.height c.climb_in_scales.new.scratch
+    c.total_of.result c.climb_in_scales.ensures.climbed c.write_heights.ensures c.total_of.ensures
+
+pub returns-clause-wiped : goal.returns-clause-wiped
+returns-clause-wiped c =
+    let each = c.requires.rows.scratch_each in
+    let same = c.climb_in_scales.ensures.same in
     record {
-      settled =
-          settles (day_in c.args.invoices) _ _ c.args.struck.now c.climb_in_scales.new.flow c.write_heights.new.height c.climb_in_scales.new.number
-          c.climb_in_scales.new.last c.total_of.result c.climb_in_scales.ensures c.write_heights.ensures c.total_of.ensures;
-      wiped = record {
-        number_clear = c.fill.ensures.after (λ y same. same) ∙ ap (λ n. replicate n (pos 0)) (omega (arith, c.requires.rows.number_each));
-        last_clear = c.fill-2.ensures.after (λ y same. same) ∙ ap (λ n. replicate n 0) (omega (arith, c.requires.rows.last_each));
-        ring_clear = c.fill-3.ensures.after (λ y same. same) ∙ ap (λ n. replicate n 0) (omega (arith, c.requires.rows.ring_each));
-      };
+      number_clear = c.fill.ensures.after (λ y same. same) ∙ ap (λ n. replicate n (pos 0)) (omega (arith, each.number_each, same.number_each));
+      last_clear = c.fill-2.ensures.after (λ y same. same) ∙ ap (λ n. replicate n 0) (omega (arith, each.last_each, same.last_each));
+      ring_clear = c.fill-3.ensures.after (λ y same. same) ∙ ap (λ n. replicate n 0) (omega (arith, each.ring_each, same.ring_each));
     }
