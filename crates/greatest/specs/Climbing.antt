@@ -10,7 +10,7 @@ use Rattle.rings.specs.declared.scratch.Scratch.{Scratch}
 pub record Climbed (N : Network) (least : ℕ) (flow flow' : List ℕ) (s : Scratch) : Type 0 where
   pub even : Circulation N (reads flow')
   pub more : (flow' ≡ flow) ⊎ (gain N (reads flow) < gain N (reads flow'))
-  pub settled : Settled (residual N (reads flow') least) s.number.now s.last.now
+  pub settled : Settled (residual N (reads flow') least) s
 
 -- the largest number of a row, or 0 where there is none
 pub record Largest (row : List ℕ) (top : ℕ) : Type 0 where

@@ -1,6 +1,6 @@
 // From a set-off in rows that are as long as the day is to a greatest one, with the heights that show it.
 ghost use Rattle.std.specs.Prelude.{◌≡◌, ℕ, ◌<◌, ◌≤◌, length};
-ghost use Rattle.day.specs.Bills.{reads, SetOff, total};
+ghost use Rattle.day.specs.Bills.{reads, SetOff};
 ghost use Rattle.rings.specs.Numbers.{levels, Below};
 ghost use Rattle.rings.specs.Scratch.{SameRows};
 ghost use Rattle.setoff.specs.Rows.{day_in};
@@ -19,15 +19,6 @@ fn write_heights(number: &[i32], height: &mut [u16])
     for (v, number) in number.iter().enumerate() {
         height[v] = *number as u16;
     }
-}
-
-// What is struck out in all.
-fn total_of<'a>(invoices: Invoices<'a>, cents: &'a [u64]) -> u64
-    requires set { SetOff (day_in invoices) (reads cents.now) }
-    requires each { length cents.now ≡ length invoices.from.now }
-    ensures { result ≡ total (day_in invoices.entry) (reads cents.now) }
-{
-    setoff::total(Struck { invoices, cents })
 }
 
 // Goes on from a set-off to a greatest one, and returns its total. What only served the search is wiped.
@@ -55,5 +46,8 @@ pub(crate) fn settle(
     scratch.number.fill(0);
     scratch.last.fill(0);
     scratch.ring.fill(0);
-    total_of(invoices, struck)
+    setoff::total(Struck {
+        invoices,
+        cents: struck,
+    })
 }

@@ -1,5 +1,5 @@
 -- What holds between two rounds of the search, and inside a round between two arcs. Assumes nothing.
-use Rattle.std.proofs.Common.{◌≡◌, ℕ, suc, ◌+◌, ◌-◌, ◌*◌, ◌<◌, ◌≤◌, List, length, get_or, set, replicate, ℤ, pos, Some, None, Option, sym, refl, ap, ◌∙◌, subst, subst₂, inl, inr, arith}
+use Rattle.std.proofs.Common.{◌≡◌, ℕ, suc, ◌+◌, ◌-◌, ◌*◌, ◌<◌, ◌≤◌, length, get_or, set, replicate, pos, Some, None, Option, sym, refl, ap, ◌∙◌, subst, subst₂, inl, inr, arith}
 use Rattle.std.proofs.lemmas.List.{get_or-replicate, get_or_past, length-replicate, get_or-set_same, get_or-set_other, length-set}
 use Rattle.std.proofs.lemmas.Bool.{cases_eq, cases_lt, false≢true}
 use Rattle.day.specs.Bills.{reads}
@@ -7,47 +7,53 @@ use Rattle.heights.specs.Residual.{Steps, AllFitted}
 use Rattle.heights.specs.Search.{Searched, back}
 use Rattle.heights.proofs.Rounds.{next_round}
 use Rattle.heights.proofs.Searching.{begins}
-use Rattle.rings.specs.Chains.{Ends, Followed}
-use Rattle.rings.specs.Found.{Searches}
+use Rattle.rings.specs.Chains.{Closed, Ends, Followed}
+use Rattle.rings.specs.Found.{Ringed, Searches}
 use Rattle.rings.specs.Numbers.{natural, levels, Below}
 use Rattle.rings.specs.Tries.{Raised, ArcTried}
-use Rattle.rings.proofs.Going.{Going, searched}
+use Rattle.rings.specs.declared.scratch.Scratch.{Scratch}
+use Rattle.rings.proofs.Going.{Going, later, searched}
 use Rattle.rings.proofs.Rounds.{Lawful, arc_on, late_goes_on, high_goes_on, closed_gains}
 
 -- so many rounds have gone over all steps
-pub record Swept (S : Steps) (rounds : ℕ) (num : List ℤ) (last : List ℕ) : Type 0 where
-  pub numbers : Below S.nodes S.nodes num
-  pub each : length last ≡ S.nodes
-  pub kept : Searched S (rounds + 1) 0 (levels num) (reads last)
-  pub done : S.nodes ≤ rounds → AllFitted S (levels num)
+pub record Swept (S : Steps) (rounds : ℕ) (w : Scratch) : Type 0 where
+  pub numbers : Below S.nodes S.nodes w.number.now
+  pub each : length w.last.now ≡ S.nodes
+  pub kept : Searched S (rounds + 1) 0 (levels w.number.now) (reads w.last.now)
+  pub done : S.nodes ≤ rounds → AllFitted S (levels w.number.now)
 
 -- and the next one over the first e arcs; v was raised last, or nothing was
-pub record Sweeping (S : Steps) (rounds e : ℕ) (num : List ℤ) (last : List ℕ) (raised : Option ℕ) : Type 0 where
-  pub numbers : Below S.nodes S.nodes num
-  pub each : length last ≡ S.nodes
-  pub going : Going S (rounds + 1) (2 * e) (levels num) (reads last) raised
+pub record Sweeping (S : Steps) (rounds e : ℕ) (w : Scratch) (raised : Option ℕ) : Type 0 where
+  pub numbers : Below S.nodes S.nodes w.number.now
+  pub each : length w.last.now ≡ S.nodes
+  pub going : Going S (rounds + 1) (2 * e) (levels w.number.now) (reads w.last.now) raised
 
 -- an arc has raised node v, to whatever number
-pub record Raising (S : Steps) (rounds e : ℕ) (num : List ℤ) (last : List ℕ) (v : ℕ) : Type 0 where
+pub record Raising (S : Steps) (rounds e : ℕ) (w : Scratch) (v : ℕ) : Type 0 where
   pub there : v < S.nodes
-  pub exact : get_or num v (pos 0) ≡ pos (levels num v)
-  pub kept : Searched S (rounds + 1) (2 * (e + 1)) (levels num) (reads last)
+  pub exact : get_or w.number.now v (pos 0) ≡ pos (levels w.number.now v)
+  pub kept : Searched S (rounds + 1) (2 * (e + 1)) (levels w.number.now) (reads w.last.now)
+
+-- last steps that lead into a ring lead into one that gains
+pub rings : (S : Steps) (k i : ℕ) (w w' : Scratch) → Searched S k i (levels w.number.now) (reads w.last.now) → (m : ℕ) →
+    (m ≤ S.nodes) × ((start : ℕ) × Closed S.tail (reads w.last.now) start m (reads w'.ring.now)) → Ringed S m w'.ring.now
+rings S k i w w' at m (few, (start, closed)) =
+    (few, (back S.tail (reads w.last.now) start, closed_gains S k i (levels w.number.now) (reads w.last.now) at start m (reads w'.ring.now) closed))
 
 module _ (S : Steps) (law : Lawful S) where
-  pub swept_none : (num : List ℤ) (last : List ℕ) → 1 ≤ S.nodes → num ≡ replicate S.nodes (pos 0) → last ≡ replicate S.nodes 0 → Swept S 0 num last
-  swept_none num last some clear clear' =
+  pub swept_none : (w : Scratch) → 1 ≤ S.nodes → w.number.now ≡ replicate S.nodes (pos 0) → w.last.now ≡ replicate S.nodes 0 → Swept S 0 w
+  swept_none w some clear clear' =
       let n = S.nodes in
-      let zeros : (λ (v : ℕ). 0) ≡ levels (replicate n (pos 0)) = λ i v. zero v i in
-      let zeros' : (λ (v : ℕ). 0) ≡ reads (replicate n 0) = λ i v. zero' v i in
-      let numbers : Below n n (replicate n (pos 0)) = record {
-        each = length-replicate n (pos 0);
-        exact = λ v l. get_or-replicate n v (pos 0) (pos 0) l ∙ ap pos (zero v);
-        low = λ v l. subst (λ x. x < n) (zero v) some;
-      } in
-      subst₂ (λ row row'. Swept S 0 row row') (sym clear) (sym clear')
+      let zeros : (λ (v : ℕ). 0) ≡ levels w.number.now = (λ i v. zero v i) ∙ ap levels (sym clear) in
+      let zeros' : (λ (v : ℕ). 0) ≡ reads w.last.now = (λ i v. zero' v i) ∙ ap reads (sym clear') in
       record {
-        numbers = numbers;
-        each = length-replicate {A = ℕ} n 0;
+        numbers = subst (Below n n) (sym clear)
+            record {
+              each = length-replicate n (pos 0);
+              exact = λ v l. get_or-replicate n v (pos 0) (pos 0) l ∙ ap pos (zero v);
+              low = λ v l. subst (λ x. x < n) (zero v) some;
+            };
+        each = ap length clear' ∙ length-replicate {A = ℕ} n 0;
         kept = subst₂ (λ g h. Searched S 1 0 g h) zeros zeros' (begins S);
         done = λ none. absurd (omega arith);
       }
@@ -64,111 +70,108 @@ module _ (S : Steps) (law : Lawful S) where
         | inr past ↦ sym (get_or_past {X = ℕ} (replicate S.nodes 0) v 0 (omega (arith, length-replicate {A = ℕ} S.nodes 0)))
       ]
 
-  module _ (rounds : ℕ) (num : List ℤ) (last : List ℕ) where
-    pub sweeping_none : Swept S rounds num last → Sweeping S rounds 0 num last None
-    sweeping_none at = record { numbers = at.numbers; each = at.each; going = (at.kept, λ f o l. absurd (omega arith)) }
+  -- the ring's row is of no account
+  pub swept_same : (rounds : ℕ) (w w' : Scratch) → w'.number.now ≡ w.number.now → w'.last.now ≡ w.last.now → Swept S rounds w → Swept S rounds w'
+  swept_same rounds w w' same same' at =
+      record {
+        numbers = subst (Below S.nodes S.nodes) (sym same) at.numbers;
+        each = ap length same' ∙ at.each;
+        kept = subst₂ (λ n l. Searched S (rounds + 1) 0 (levels n) (reads l)) (sym same) (sym same') at.kept;
+        done = λ late. subst (λ n. AllFitted S (levels n)) (sym same) (at.done late);
+      }
 
-    pub sweeping_kept : (e : ℕ) (raised : Option ℕ) → Sweeping S rounds e num last raised → Searched S (rounds + 1) (2 * e) (levels num) (reads last)
-    sweeping_kept e raised at = searched S (rounds + 1) (2 * e) (levels num) (reads last) raised at.going
-
-    pub going_there : (e : ℕ) (raised : Option ℕ) (v : ℕ) → raised ≡ Some v → Sweeping S rounds e num last raised → v < S.nodes
-    going_there e raised v is at = (subst (λ r. Going S (rounds + 1) (2 * e) (levels num) (reads last) r) is at.going).0
+  module _ (rounds e : ℕ) (w : Scratch) where
+    pub sweeping_kept : (raised : Option ℕ) → Sweeping S rounds e w raised → Searched S (rounds + 1) (2 * e) (levels w.number.now) (reads w.last.now)
+    sweeping_kept raised at = searched S (rounds + 1) (2 * e) (levels w.number.now) (reads w.last.now) raised at.going
 
     -- a round more, with nothing raised or with last steps that end
-    pub swept_more : (e : ℕ) (raised : Option ℕ) → 2 * e ≡ S.steps →
-        ((v : ℕ) → raised ≡ Some v → Ends S.nodes S.tail (reads last) v) → Sweeping S rounds e num last raised → Swept S (rounds + 1) num last
-    swept_more e raised all ends at =
+    pub swept_more : (raised : Option ℕ) → 2 * e ≡ S.steps → ((v : ℕ) → raised ≡ Some v → Ends S.nodes S.tail (reads w.last.now) v) →
+        Sweeping S rounds e w raised → Swept S (rounds + 1) w
+    swept_more raised all ends at =
+        let num = levels w.number.now in
+        let last = reads w.last.now in
+        let next : suc (rounds + 1) ≡ rounds + 1 + 1 = omega arith in
         record {
           numbers = at.numbers;
           each = at.each;
-          kept =
-              let next : suc (rounds + 1) ≡ rounds + 1 + 1 = omega arith in
-              subst (λ k. Searched S k 0 (levels num) (reads last)) next
-              (next_round S (rounds + 1) (levels num) (reads last) (subst (λ i. Searched S (rounds + 1) i (levels num) (reads last)) all (sweeping_kept e raised at)));
-          done = λ late. by raised ends late at.going;
+          kept = subst (λ k. Searched S k 0 num last) next (next_round S (rounds + 1) num last (subst (λ i. Searched S (rounds + 1) i num last) all (sweeping_kept raised at)));
+          done = λ late. by num last raised ends late at.going;
         }
       where
-        by : (raised : Option ℕ) → ((v : ℕ) → raised ≡ Some v → Ends S.nodes S.tail (reads last) v) → S.nodes ≤ rounds + 1 →
-            Going S (rounds + 1) (2 * e) (levels num) (reads last) raised → AllFitted S (levels num)
-        by None ends late (kept, fitted) = λ f o. fitted f o (subst (λ i. f < i) (sym all) o.0)
-        by (Some v) ends late (there, (kept, now)) =
-            absurd (late_goes_on S (rounds + 1) (2 * e) (levels num) (reads last) kept law v (omega (arith, now)) (ends v refl))
+        by : (num last : ℕ → ℕ) (raised : Option ℕ) → ((v : ℕ) → raised ≡ Some v → Ends S.nodes S.tail last v) → S.nodes ≤ rounds + 1 →
+            Going S (rounds + 1) (2 * e) num last raised → AllFitted S num
+        by num last None ends late (kept, fitted) = λ f o. fitted f o (subst (λ i. f < i) (sym all) o.0)
+        by num last (Some v) ends late (there, (kept, now)) = absurd (late_goes_on S (rounds + 1) (2 * e) num last kept law v (omega (arith, now)) (ends v refl))
 
-    module _ (num' : List ℤ) (last' : List ℕ) (e : ℕ) where
+    module _ (w' : Scratch) where
       -- a raised node has an exact number, and where it is low, all are
-      raised_exact : (i v : ℕ) → Below S.nodes S.nodes num → v < S.nodes → Raised S i num num' last last' v → (w : ℕ) → w < S.nodes → get_or num' w (pos 0) ≡ pos (levels num' w)
-      raised_exact i v low there up w l =
+      raised_exact : (i v : ℕ) → Below S.nodes S.nodes w.number.now → v < S.nodes → Raised S i w w' v → (u : ℕ) → u < S.nodes →
+          get_or w'.number.now u (pos 0) ≡ pos (levels w'.number.now u)
+      raised_exact i v low there up u l =
+          let num = w.number.now in
           let x = (levels num (S.tail i) + S.up i) - S.down i in
           let each = low.each in
-          subst (λ row. get_or row w (pos 0) ≡ pos (levels row w)) (sym up.number)
-          (elim (cases_eq w v) [
+          subst (λ row. get_or row u (pos 0) ≡ pos (levels row u)) (sym up.number)
+          (elim (cases_eq u v) [
             | inl same ↦
-                let new = ap (λ u. get_or (set num v (pos x)) u (pos 0)) same ∙ get_or-set_same num v (pos x) (pos 0) (omega arith) in
+                let new = ap (λ t. get_or (set num v (pos x)) t (pos 0)) same ∙ get_or-set_same num v (pos x) (pos 0) (omega arith) in
                 new ∙ ap pos (sym (ap natural new))
             | inr other ↦
-                let old = get_or-set_other num v w (pos x) (pos 0) other in
-                old ∙ low.exact w l ∙ ap pos (sym (ap natural old))
+                let old = get_or-set_other num v u (pos x) (pos 0) other in
+                old ∙ low.exact u l ∙ ap pos (sym (ap natural old))
           ])
 
-      raised_low : (i v : ℕ) → Below S.nodes S.nodes num → Raised S i num num' last last' v → levels num' v < S.nodes → (w : ℕ) → w < S.nodes → levels num' w < S.nodes
-      raised_low i v low up here w l = elim (cases_eq w v) [
-        | inl same ↦ subst (λ u. levels num' u < S.nodes) (sym same) here
+      raised_low : (i v : ℕ) → Below S.nodes S.nodes w.number.now → Raised S i w w' v → levels w'.number.now v < S.nodes → (u : ℕ) → u < S.nodes → levels w'.number.now u < S.nodes
+      raised_low i v low up here u l = elim (cases_eq u v) [
+        | inl same ↦ subst (λ t. levels w'.number.now t < S.nodes) (sym same) here
         | inr other ↦
-            let x = (levels num (S.tail i) + S.up i) - S.down i in
-            let old = ap (λ row. levels row w) up.number ∙ ap natural (get_or-set_other num v w (pos x) (pos 0) other) in
-            omega (arith, low.low w l)
+            let x = (levels w.number.now (S.tail i) + S.up i) - S.down i in
+            let old = ap (λ row. levels row u) up.number ∙ ap natural (get_or-set_other w.number.now v u (pos x) (pos 0) other) in
+            omega (arith, low.low u l)
       ]
 
-      which : (v : ℕ) → ArcTried S e num num' last last' (Some v) → (i : ℕ) × Raised S i num num' last last' v
+      which : (v : ℕ) → ArcTried S e w w' (Some v) → (i : ℕ) × Raised S i w w' v
       which v tried = elim tried [ inl (some, first) ↦ (2 * e, first) | inr (fitted, second) ↦ (2 * e + 1, second) ]
 
-      raised_there : (i v : ℕ) → Raised S i num num' last last' v → v < S.nodes
-      raised_there i v up = subst (λ w. w < S.nodes) (sym up.node) (law.heads i up.there.0)
+      raised_there : (i v : ℕ) → Raised S i w w' v → v < S.nodes
+      raised_there i v up = subst (λ u. u < S.nodes) (sym up.node) (law.heads i up.there.0)
 
-      pub raising : (v : ℕ) (raised : Option ℕ) → ArcTried S e num num' last last' (Some v) → Sweeping S rounds e num last raised → Raising S rounds e num' last' v
+      goes_on : (r raised : Option ℕ) → ArcTried S e w w' r → Sweeping S rounds e w raised → Going S (rounds + 1) (2 * (e + 1)) (levels w'.number.now) (reads w'.last.now) (later r raised)
+      goes_on r raised tried at = arc_on S (rounds + 1) e law w w' at.numbers.each at.each r raised tried at.going
+
+      pub raising : (v : ℕ) (raised : Option ℕ) → ArcTried S e w w' (Some v) → Sweeping S rounds e w raised → Raising S rounds e w' v
       raising v raised tried at =
           let (i, up) = which v tried in
           let there = raised_there i v up in
-          record {
-            there = there;
-            exact = raised_exact i v at.numbers there up v there;
-            kept = (arc_on S (rounds + 1) e law num num' last last' (Some v) raised at.numbers.each at.each tried at.going).1.0;
-          }
+          record { there = there; exact = raised_exact i v at.numbers there up v there; kept = (goes_on (Some v) raised tried at).1.0 }
 
       -- one arc more, which raised a node to a low number, or none
-      pub sweeping_raised : (v : ℕ) (raised : Option ℕ) → ArcTried S e num num' last last' (Some v) → levels num' v < S.nodes → Sweeping S rounds e num last raised →
-          Sweeping S rounds (e + 1) num' last' (Some v)
+      pub sweeping_raised : (v : ℕ) (raised : Option ℕ) → ArcTried S e w w' (Some v) → levels w'.number.now v < S.nodes → Sweeping S rounds e w raised → Sweeping S rounds (e + 1) w' (Some v)
       sweeping_raised v raised tried low at =
           let (i, up) = which v tried in
           record {
             numbers = record {
-              each = ap length up.number ∙ length-set num v _ ∙ at.numbers.each;
+              each = ap length up.number ∙ length-set w.number.now v _ ∙ at.numbers.each;
               exact = raised_exact i v at.numbers (raised_there i v up) up;
               low = raised_low i v at.numbers up low;
             };
-            each = ap length up.step ∙ length-set last v _ ∙ at.each;
-            going = arc_on S (rounds + 1) e law num num' last last' (Some v) raised at.numbers.each at.each tried at.going;
+            each = ap length up.step ∙ length-set w.last.now v _ ∙ at.each;
+            going = goes_on (Some v) raised tried at;
           }
 
-      pub sweeping_passed : (raised : Option ℕ) → ArcTried S e num num' last last' None → Sweeping S rounds e num last raised → Sweeping S rounds (e + 1) num' last' raised
+      pub sweeping_passed : (raised : Option ℕ) → ArcTried S e w w' None → Sweeping S rounds e w raised → Sweeping S rounds (e + 1) w' raised
       sweeping_passed raised tried at = elim tried [
         | inl (some, first) ↦ absurd (false≢true some)
         | inr (fitted, (same, same', step)) ↦ record {
-          numbers = subst (λ row. Below S.nodes S.nodes row) (sym same) at.numbers;
+          numbers = subst (Below S.nodes S.nodes) (sym same) at.numbers;
           each = ap length same' ∙ at.each;
-          going = arc_on S (rounds + 1) e law num num' last last' None raised at.numbers.each at.each (inr (fitted, (same, same', step))) at.going;
+          going = goes_on None raised (inr (fitted, (same, same', step))) at;
         }
       ]
 
-  -- last steps that can't end lead into a ring that gains
-  pub finds : (k i : ℕ) (num : List ℤ) (last ring : List ℕ) (v : ℕ) (r : Option ℕ) → Searched S k i (levels num) (reads last) →
-      Followed S.nodes S.tail (reads last) v ring r → (Ends S.nodes S.tail (reads last) v → ⊥) → Searches S num last ring r
-  finds k i num last ring v None at end never = absurd (never end)
-  finds k i num last ring v (Some m) at (few, (start, closed)) never =
-      (few, (back S.tail (reads last) start, closed_gains S k i (levels num) (reads last) at start m (reads ring) closed))
-
-  -- as last steps can't that lead back from a number as high as there are nodes
-  pub finds_high : (rounds e : ℕ) (num : List ℤ) (last ring : List ℕ) (v : ℕ) (r : Option ℕ) → Raising S rounds e num last v → S.nodes ≤ levels num v →
-      Followed S.nodes S.tail (reads last) v ring r → Searches S num last ring r
-  finds_high rounds e num last ring v r up high follows =
-      finds (rounds + 1) (2 * (e + 1)) num last ring v r up.kept follows (high_goes_on S (rounds + 1) (2 * (e + 1)) (levels num) (reads last) up.kept law v high)
+  -- last steps that lead back from a number as high as there are nodes can't end: they lead into a ring that gains
+  pub finds_high : (rounds e : ℕ) (w w' : Scratch) (v : ℕ) (r : Option ℕ) → Raising S rounds e w v → S.nodes ≤ levels w.number.now v →
+      Followed S.nodes S.tail (reads w.last.now) v w'.ring.now r → Searches S w' r
+  finds_high rounds e w w' v None up high end =
+      absurd (high_goes_on S (rounds + 1) (2 * (e + 1)) (levels w.number.now) (reads w.last.now) up.kept law v high end)
+  finds_high rounds e w w' v (Some m) up high found = rings S (rounds + 1) (2 * (e + 1)) w w' up.kept m found

@@ -36,7 +36,7 @@ pub record PushedRound (N : Network) (least : ℕ) (s s' : ℕ → ℕ) (c : ℕ
 -- a ring was struck out; or there is none, the flow is as it was, and the numbers show it
 abbrev pub Improved : Network → ℕ → (flow flow' : List ℕ) → Scratch → Option ℕ → Type 0
 Improved N least flow flow' s (Some c) = (least ≤ c) × PushedRound N least (reads flow) (reads flow') c
-Improved N least flow flow' s None = (flow' ≡ flow) × Settled (residual N (reads flow) least) s.number.now s.last.now
+Improved N least flow flow' s None = (flow' ≡ flow) × Settled (residual N (reads flow) least) s
 
 -- rows that don't fit are refused, and nothing is changed
 abbrev pub Improves : Network → ℕ → (flow flow' : List ℕ) → (s s' : Scratch) → Result (Option ℕ) Unfit → Type 0

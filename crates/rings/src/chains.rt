@@ -31,18 +31,17 @@ impl Scratch<'_> {
         ensures kept { RingWritten self.old self.new }
     {
         let mut at = start;
-        let mut m = 0;
-        'ring: loop {
+        for m in 0..self.ring.len() {
             let Some(way) = self.last_step(at) else {
-                unreachable!()
+                break;
             };
             self.ring[m] = way.number();
             at = network.tail_of(way);
-            m += 1;
             if at == start {
-                return m;
+                return m + 1;
             }
         }
+        unreachable!()
     }
 
     // Follows the last steps back from a node. Where they go on for as many steps as there are nodes, they are in a ring by

@@ -15,7 +15,7 @@ impl Residual<'_> {
     // is found many rounds early. A number that reaches the number of nodes has a ring behind it, and ends the search at once.
     pub(crate) fn search(self, scratch: &mut Scratch) -> Option<usize>
         requires { RowsEach self.network.nodes scratch.old }
-        ensures searches { Searches (residual_in self.entry) scratch.new.number.now scratch.new.last.now scratch.new.ring.now result }
+        ensures searches { Searches (residual_in self.entry) scratch.new result }
         ensures same { SameRows scratch.old scratch.new }
     {
         let network = self.network;

@@ -16,7 +16,7 @@ impl Residual<'_> {
         requires there { step_in way < 2 * length self.network.tail.now }
         requires number { Below self.network.nodes self.network.nodes scratch.old.number.now }
         requires last { length scratch.old.last.now ≡ self.network.nodes }
-        ensures tried { Tried (residual_in self.entry) (step_in way) scratch.old.number.now scratch.new.number.now scratch.old.last.now scratch.new.last.now result }
+        ensures tried { Tried (residual_in self.entry) (step_in way) scratch.old scratch.new result }
         ensures same { SameRows scratch.old scratch.new }
     {
         let step = self.step(way);
@@ -35,7 +35,7 @@ impl Residual<'_> {
         requires there { e < length self.network.tail.now }
         requires number { Below self.network.nodes self.network.nodes scratch.old.number.now }
         requires last { length scratch.old.last.now ≡ self.network.nodes }
-        ensures tried { ArcTried (residual_in self.entry) e scratch.old.number.now scratch.new.number.now scratch.old.last.now scratch.new.last.now result }
+        ensures tried { ArcTried (residual_in self.entry) e scratch.old scratch.new result }
         ensures same { SameRows scratch.old scratch.new }
     {
         if let Some(v) = self.try_step(Way::Along(e), scratch) {

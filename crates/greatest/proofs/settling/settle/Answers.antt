@@ -2,7 +2,7 @@
 use Rattle.std.proofs.Common.{replicate, pos, ap, ◌∙◌, arith}
 use Rattle.day.specs.Bills.{reads}
 use Rattle.setoff.specs.Rows.{day_in}
-use Rattle.greatest.proofs.Counted.{circulation, set_off}
+use Rattle.greatest.proofs.Counted.{circulation}
 use Rattle.greatest.proofs.Settled.{settles}
 use Rattle.greatest.proofs.settling.settle.Goals as goal
 
@@ -13,17 +13,10 @@ climb_in_scales-requires c =
       even = circulation (day_in c.args.invoices) _ _ (reads c.args.struck.now) c.requires.set;
     }
 
-pub total_of-requires : goal.total_of-requires
-total_of-requires c =
-    record {
-      set = set_off (day_in c.args.invoices) _ _ (reads c.climb_in_scales.new.flow) c.climb_in_scales.ensures.climbed.even;
-      each = omega (arith, c.requires.rows.struck_each);
-    }
-
 pub returns-clause-settled : goal.returns-clause-settled
 returns-clause-settled c =
     settles (day_in c.args.invoices) _ _ c.args.struck.now c.climb_in_scales.new.flow c.write_heights.new.height c.climb_in_scales.new.scratch
-    c.total_of.result c.climb_in_scales.ensures.climbed c.write_heights.ensures c.total_of.ensures
+    c.total.result c.climb_in_scales.ensures.climbed c.write_heights.ensures c.total.ensures
 
 pub returns-clause-wiped : goal.returns-clause-wiped
 returns-clause-wiped c =

@@ -8,7 +8,7 @@ use Rattle.rings.proofs.residual.Residual.search.Given as goal
 abbrev pub invariant-rounds : goal.invariant-rounds
 invariant-rounds l =
     record {
-      swept : Swept (residual_in l.self) l.counter l.scratch.number.now l.scratch.last.now;
+      swept : Swept (residual_in l.self) l.counter l.scratch;
       none : l.found ≡ None;
       same : SameRows l.fn.scratch l.scratch;
     }
@@ -16,7 +16,7 @@ invariant-rounds l =
 abbrev pub invariant-arcs : goal.invariant-arcs
 invariant-arcs l =
     record {
-      sweeping : Sweeping (residual_in l.self) l.counter l.e l.scratch.number.now l.scratch.last.now l.raised;
+      sweeping : Sweeping (residual_in l.self) l.counter l.e l.scratch l.raised;
       none : l.found ≡ None;
       same : SameRows l.fn.scratch l.scratch;
     }
