@@ -1,5 +1,5 @@
 -- A round of the search as it goes: what holds after the steps that were tried, by the node that was raised last. Assumes nothing.
-use Rattle.std.proofs.Common.{◌≡◌, ℕ, suc, ◌+◌, ◌-◌, ◌<◌, List, length, set, ℤ, pos, Some, None, Option, sym, ap, ◌∙◌, subst, subst₂, inl, inr, arith}
+use Rattle.std.proofs.Common.{◌≡◌, ℕ, suc, ◌+◌, ◌-◌, ◌<◌, List, length, get_or, set, ℤ, pos, Some, None, Option, sym, ap, ◌∙◌, subst, subst₂, inl, inr, arith}
 use Rattle.std.proofs.lemmas.List.{get_or-set_same, get_or-set_other}
 use Rattle.std.proofs.lemmas.Bool.{cases_eq}
 use Rattle.day.specs.Bills.{reads}
@@ -21,23 +21,21 @@ later (Some v) before = Some v
 later None before = before
 
 -- a row after a write, as a function
-pub levels-set : (row : List ℤ) (v x : ℕ) → v < length row → put (levels row) v x ≡ levels (set row v (pos x))
-levels-set row v x there = λ i w. at w i
+row-set : {A : Type 0} (f : A → ℕ) (d : A) (row : List A) (v : ℕ) (x : A) → v < length row → put (λ w. f (get_or row w d)) v (f x) ≡ (λ w. f (get_or (set row v x) w d))
+row-set f d row v x there = λ i w. at w i
   where
-    at : (w : ℕ) → put (levels row) v x w ≡ levels (set row v (pos x)) w
+    at : (w : ℕ) → put (λ w. f (get_or row w d)) v (f x) w ≡ f (get_or (set row v x) w d)
     at w = elim (cases_eq w v) [
-      | inl same ↦ put_same (levels row) v x w same ∙ sym (ap (λ u. levels (set row v (pos x)) u) same ∙ ap natural (get_or-set_same row v (pos x) (pos 0) there))
-      | inr other ↦ put_other (levels row) v x w other ∙ sym (ap natural (get_or-set_other row v w (pos x) (pos 0) other))
+      | inl same ↦
+          put_same (λ w. f (get_or row w d)) v (f x) w same ∙ sym (ap (λ u. f (get_or (set row v x) u d)) same ∙ ap f (get_or-set_same row v x d there))
+      | inr other ↦ put_other (λ w. f (get_or row w d)) v (f x) w other ∙ sym (ap f (get_or-set_other row v w x d other))
     ]
 
-pub reads-set : (row : List ℕ) (v x : ℕ) → v < length row → put (reads row) v x ≡ reads (set row v x)
-reads-set row v x there = λ i w. at w i
-  where
-    at : (w : ℕ) → put (reads row) v x w ≡ reads (set row v x) w
-    at w = elim (cases_eq w v) [
-      | inl same ↦ put_same (reads row) v x w same ∙ sym (ap (reads (set row v x)) same ∙ get_or-set_same row v x 0 there)
-      | inr other ↦ put_other (reads row) v x w other ∙ sym (get_or-set_other row v w x 0 other)
-    ]
+pub levels-set : (row : List ℤ) (v x : ℕ) → v < length row → put (levels row) v x ≡ levels (set row v (pos x))
+levels-set row v x there = row-set natural (pos 0) row v (pos x) there
+
+reads-set : (row : List ℕ) (v x : ℕ) → v < length row → put (reads row) v x ≡ reads (set row v x)
+reads-set row v x there = row-set (λ n. n) 0 row v x there
 
 module _ (S : Steps) (k : ℕ) where
   pub passes_on : (i : ℕ) (num last : ℕ → ℕ) (r : Option ℕ) → (Open S i → Fitted S num i) → Going S k i num last r → Going S k (suc i) num last r

@@ -26,6 +26,7 @@ pub record Lawful (S : Steps) : Type 0 where
   pub heads : (f : ℕ) → f < S.steps → S.head f < S.nodes
   pub turn : (e : ℕ) → Opposite S (2 * e) (2 * e + 1)
   pub small : (f : ℕ) → S.up f ≤ 1
+  pub small_down : (f : ℕ) → S.down f ≤ 1
 
 module _ (S : Steps) where
   -- a step that has just raised its head leaves nothing to gain on the way back

@@ -34,6 +34,13 @@ pub record Raising (S : Steps) (rounds e : ℕ) (w : Scratch) (v : ℕ) : Type 0
   pub exact : get_or w.number.now v (pos 0) ≡ pos (levels w.number.now v)
   pub kept : Searched S (rounds + 1) (2 * (e + 1)) (levels w.number.now) (reads w.last.now)
 
+-- a clear row, as a function
+zeros : {A : Type 0} (f : A → ℕ) (d : A) → f d ≡ 0 → (n v : ℕ) → f (get_or (replicate n d) v d) ≡ 0
+zeros f d none n v = elim (cases_lt v n) [
+  | inl l ↦ ap f (get_or-replicate n v d d l) ∙ none
+  | inr past ↦ ap f (get_or_past (replicate n d) v d (omega (arith, length-replicate n d))) ∙ none
+]
+
 -- last steps that lead into a ring lead into one that gains
 pub rings : (S : Steps) (k i : ℕ) (w w' : Scratch) → Searched S k i (levels w.number.now) (reads w.last.now) → (m : ℕ) →
     (m ≤ S.nodes) × ((start : ℕ) × Closed S.tail (reads w.last.now) start m (reads w'.ring.now)) → Ringed S m w'.ring.now
@@ -44,8 +51,9 @@ module _ (S : Steps) (law : Lawful S) where
   pub swept_none : (w : Scratch) → 1 ≤ S.nodes → w.number.now ≡ replicate S.nodes (pos 0) → w.last.now ≡ replicate S.nodes 0 → Swept S 0 w
   swept_none w some clear clear' =
       let n = S.nodes in
-      let zeros : (λ (v : ℕ). 0) ≡ levels w.number.now = (λ i v. zero v i) ∙ ap levels (sym clear) in
-      let zeros' : (λ (v : ℕ). 0) ≡ reads w.last.now = (λ i v. zero' v i) ∙ ap reads (sym clear') in
+      let zero = λ (v : ℕ). sym (zeros natural (pos 0) refl n v) in
+      let at_zero : (λ (v : ℕ). 0) ≡ levels w.number.now = (λ i v. zero v i) ∙ ap levels (sym clear) in
+      let at_zero' : (λ (v : ℕ). 0) ≡ reads w.last.now = (λ i v. sym (zeros (λ (x : ℕ). x) 0 refl n v) i) ∙ ap reads (sym clear') in
       record {
         numbers = subst (Below n n) (sym clear)
             record {
@@ -54,21 +62,9 @@ module _ (S : Steps) (law : Lawful S) where
               low = λ v l. subst (λ x. x < n) (zero v) some;
             };
         each = ap length clear' ∙ length-replicate {A = ℕ} n 0;
-        kept = subst₂ (λ g h. Searched S 1 0 g h) zeros zeros' (begins S);
+        kept = subst₂ (λ g h. Searched S 1 0 g h) at_zero at_zero' (begins S);
         done = λ none. absurd (omega arith);
       }
-    where
-      zero : (v : ℕ) → 0 ≡ levels (replicate S.nodes (pos 0)) v
-      zero v = elim (cases_lt v S.nodes) [
-        | inl l ↦ sym (ap natural (get_or-replicate S.nodes v (pos 0) (pos 0) l))
-        | inr past ↦ sym (ap natural (get_or_past (replicate S.nodes (pos 0)) v (pos 0) (omega (arith, length-replicate S.nodes (pos 0)))))
-      ]
-
-      zero' : (v : ℕ) → 0 ≡ reads (replicate S.nodes 0) v
-      zero' v = elim (cases_lt v S.nodes) [
-        | inl l ↦ sym (get_or-replicate {A = ℕ} S.nodes v 0 0 l)
-        | inr past ↦ sym (get_or_past {X = ℕ} (replicate S.nodes 0) v 0 (omega (arith, length-replicate {A = ℕ} S.nodes 0)))
-      ]
 
   -- the ring's row is of no account
   pub swept_same : (rounds : ℕ) (w w' : Scratch) → w'.number.now ≡ w.number.now → w'.last.now ≡ w.last.now → Swept S rounds w → Swept S rounds w'

@@ -24,7 +24,7 @@ impl Residual<'_> {
         let mut found = None;
         'rounds: for _ in 0..network.nodes {
             let mut raised = None;
-            // by its number, which tells both steps of an arc
+            // an arc is its number here: the arcs are three rows, and both steps are made of the number
             'arcs: for e in 0..network.tail.len() {
                 if let Some(v) = self.try_arc(e, scratch) {
                     raised = Some(v);
@@ -35,6 +35,7 @@ impl Residual<'_> {
                 }
             }
             if let Some(v) = raised {
+                // no chain of `let`s: tried, and past it `rounds-preserved` did not know that none was found
                 if let Some(m) = scratch.follow(network, v) {
                     found = Some(m);
                     break 'rounds;

@@ -1,7 +1,7 @@
 // The steps of the residual graph: along an arc where something is left of it, and back where something flows.
 ghost use Rattle.std.specs.Prelude.{◌≡◌, ◌*◌, ◌<◌, length};
-ghost use Rattle.day.specs.Bills.{reads};
 ghost use Rattle.rings.specs.Chains.{tail_of};
+ghost use Rattle.rings.specs.Residual.{residual_in};
 ghost use Rattle.rings.specs.Rows.{network_in};
 ghost use Rattle.rings.specs.Steps.{IsStep};
 ghost use Rattle.rings.specs.Ways.{step_in};
@@ -37,7 +37,7 @@ impl Residual<'_> {
     // The step that goes this way.
     pub(crate) fn step(self, way: Way) -> Step
         requires { step_in way < 2 * length self.network.tail.now }
-        ensures { IsStep (network_in self.entry.network) (reads self.entry.flow.now) (step_in way) result }
+        ensures { IsStep (residual_in self.entry) (step_in way) result }
     {
         let network = self.network;
         match way {

@@ -6,22 +6,17 @@ use Rattle.day.specs.Bills.{reads}
 use Rattle.rings.specs.Chains.{Ends}
 use Rattle.rings.specs.Numbers.{levels}
 use Rattle.rings.specs.Residual.{residual_in}
-use Rattle.rings.specs.Rows.{network_in}
 use Rattle.rings.specs.Scratch.{SameRows}
-use Rattle.rings.specs.declared.residual.Residual.{Residual}
-use Rattle.rings.proofs.Rounds.{Lawful, lasts_there}
+use Rattle.rings.proofs.Rounds.{lasts_there}
 use Rattle.rings.proofs.Sweeps.{Swept, Sweeping, swept_none, swept_same, swept_more, sweeping_kept, sweeping_raised, sweeping_passed, raising, finds_high, rings}
 use Rattle.rings.proofs.Units.{lawful}
 use Rattle.rings.proofs.residual.Residual.search.Goals as goal
 use Rattle.rings.proofs.residual.Residual.search.Goals.{in-Some+else-scratch-from, in_default, in-Some-raised+in_default-follow, in_default-raised}
 
-law : (r : Residual) → Lawful (residual_in r)
-law r = lawful (network_in r.network) (reads r.flow.now) r.least
-
 pub rounds-init : goal.rounds-init
 rounds-init c =
     record {
-      swept = swept_none (residual_in c.args.self) (law c.args.self) _ c.args.self.network.some_node
+      swept = swept_none (residual_in c.args.self) (lawful c.args.self) _ c.args.self.network.some_node
           (c.fill.ensures.after (λ y same. same) ∙ ap (λ n. replicate n (pos 0)) c.requires.number_each)
           (c.fill-2.ensures.after (λ y same. same) ∙ ap (λ n. replicate n 0) c.requires.last_each);
       none = refl;
@@ -40,7 +35,7 @@ follow-found-requires-clause-steps c v l =
     let S = residual_in c.args.self in
     let e = c.arcs.e in
     let w = c.try_arc.new.scratch in
-    let up = raising S (law c.args.self) c.rounds.counter e c.arcs.scratch w c.in-Some.v c.arcs.raised c.in-Some.ensures.tried c.arcs.invariant.sweeping in
+    let up = raising S (lawful c.args.self) c.rounds.counter e c.arcs.scratch w c.in-Some.v c.arcs.raised c.in-Some.ensures.tried c.arcs.invariant.sweeping in
     lasts_there S (c.rounds.counter + 1) (2 * (e + 1)) (levels w.number.now) (reads w.last.now) up.kept v
 
 pub arcs-preserved : goal.arcs-preserved
@@ -56,15 +51,15 @@ arcs-preserved c =
         | in-Some+else-scratch-from w ↦
             let v = w.in-Some.v in
             let tried = w.in-Some.ensures.tried in
-            let up = raising S (law c.args.self) round e c.arcs.scratch w' v c.arcs.raised tried at in
+            let up = raising S (lawful c.args.self) round e c.arcs.scratch w' v c.arcs.raised tried at in
             let z = get_or num w.from.result (pos 0) in
             let fits : SFits w32 z = search rules in
             let low = lower z (levels num v) S.nodes w.from-in-Some.result (ap (λ i. get_or num i (pos 0)) w.from.ensures ∙ up.exact) w.from-in-Some.ensures fits
             (omega (arith, c.args.self.network.few_nodes)) w.if-scratch-from.false in
-            subst (Sweeping S round (e + 1) w') (sym w.raised-is) (sweeping_raised S (law c.args.self) round e c.arcs.scratch w' v c.arcs.raised tried low at)
+            subst (Sweeping S round (e + 1) w') (sym w.raised-is) (sweeping_raised S (lawful c.args.self) round e c.arcs.scratch w' v c.arcs.raised tried low at)
         | in_default w ↦
             subst (Sweeping S round (e + 1) w') (sym w.raised-is)
-            (sweeping_passed S (law c.args.self) round e c.arcs.scratch w' c.arcs.raised w.in_default.ensures.tried at)
+            (sweeping_passed S (lawful c.args.self) round e c.arcs.scratch w' c.arcs.raised w.in_default.ensures.tried at)
       ];
       none = c.arcs.invariant.none;
       same = search rules;
@@ -74,7 +69,7 @@ pub follow-requires-clause-steps : goal.follow-requires-clause-steps
 follow-requires-clause-steps c v l =
     let S = residual_in c.args.self in
     let w = c.arcs.scratch in
-    let kept = sweeping_kept S (law c.args.self) c.rounds.counter c.arcs.e w c.arcs.raised c.arcs.invariant.sweeping in
+    let kept = sweeping_kept S (lawful c.args.self) c.rounds.counter c.arcs.e w c.arcs.raised c.arcs.invariant.sweeping in
     lasts_there S (c.rounds.counter + 1) (2 * c.arcs.e) (levels w.number.now) (reads w.last.now) kept v
 
 pub rounds-preserved : goal.rounds-preserved
@@ -83,7 +78,7 @@ rounds-preserved c =
     let round = c.rounds.counter in
     let w' = c.arcs.scratch in
     let swept : Swept S (round + 1) w'
-    = swept_more S (law c.args.self) round c.arcs.e w' c.arcs.raised (omega arith)
+    = swept_more S (lawful c.args.self) round c.arcs.e w' c.arcs.raised (omega arith)
     (λ v same. elim c.match-raised.branch [
       | in-Some-raised+in_default-follow w ↦
           let is = w.in-Some-raised.is in
@@ -97,7 +92,7 @@ rounds-preserved c =
       | in-Some-raised+in_default-follow w ↦
           let kept = w.follow.ensures.kept in
           subst (λ s. Swept S (round + 1) s × SameRows c.args.scratch.now s) (sym w.scratch-is)
-          (swept_same S (law c.args.self) (round + 1) w' w.follow.new.self kept.number kept.last swept, search rules)
+          (swept_same S (lawful c.args.self) (round + 1) w' w.follow.new.self kept.number kept.last swept, search rules)
       | in_default-raised w ↦ subst (λ s. Swept S (round + 1) s × SameRows c.args.scratch.now s) (sym w.scratch-is) (swept, c.arcs.invariant.same)
     ] in
     record { swept = after.0; none = c.arcs.invariant.none; same = after.1 }
@@ -110,16 +105,16 @@ returns-then-scratch-from-clause-searches c =
     let v = c.in-Some.v in
     let w = c.try_arc.new.scratch in
     let num = w.number.now in
-    let up = raising S (law c.args.self) round e c.arcs.scratch w v c.arcs.raised c.in-Some.ensures.tried c.arcs.invariant.sweeping in
+    let up = raising S (lawful c.args.self) round e c.arcs.scratch w v c.arcs.raised c.in-Some.ensures.tried c.arcs.invariant.sweeping in
     let z = get_or num c.from.result (pos 0) in
     let fits : SFits w32 z = search rules in
     let high = higher z (levels num v) S.nodes c.from-in-Some.result (ap (λ i. get_or num i (pos 0)) c.from.ensures ∙ up.exact) c.from-in-Some.ensures fits
     (omega (arith, c.args.self.network.few_nodes)) c.if-scratch-from.true in
-    finds_high S (law c.args.self) round e w c.follow-found.new.self v c.follow-found.result up high c.follow-found.ensures.followed
+    finds_high S (lawful c.args.self) round e w c.follow-found.new.self v c.follow-found.result up high c.follow-found.ensures.followed
 
 pub returns-in-Some-follow-clause-searches : goal.returns-in-Some-follow-clause-searches
 returns-in-Some-follow-clause-searches c =
     let S = residual_in c.args.self in
     let w = c.arcs.scratch in
-    let kept = sweeping_kept S (law c.args.self) c.rounds.counter c.arcs.e w c.arcs.raised c.arcs.invariant.sweeping in
+    let kept = sweeping_kept S (lawful c.args.self) c.rounds.counter c.arcs.e w c.arcs.raised c.arcs.invariant.sweeping in
     rings S (c.rounds.counter + 1) (2 * c.arcs.e) w c.follow.new.self kept c.in-Some-follow.m c.in-Some-follow.ensures.followed
