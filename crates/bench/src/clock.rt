@@ -1,37 +1,27 @@
 // The shortest of many runs.
-use anyhow::anyhow;
+use anyhow::{Result, ensure};
+use day::{MOST_FIRMS, MOST_INVOICES};
 use std::time::Instant;
 
-pub(crate) const RUNS: usize = 1000;
+const RUNS: usize = 1000;
 
-// Each thing that is timed has to take well under this, a millisecond.
+// Each thing that is timed has to take well under this many nanoseconds, a millisecond.
 const LIMIT: u128 = 1_000_000;
 
-// In nanoseconds.
-#[derive(Drop)]
-pub(crate) struct Shortest(u128);
-
-pub(crate) fn start(rt: &HostRuntime) -> anyhow::Result<Instant> {
-    Ok(Instant::now(rt)?)
-}
-
-impl Shortest {
-    pub(crate) fn new() -> Self {
-        Shortest(u128::MAX)
+// Tells what the shortest of the runs takes. A run fails by itself where what it finds is wrong.
+pub(crate) fn time<F: FnMut() -> Result<()>>(rt: &HostRuntime, what: &str, mut run: F) -> Result<()>
+    requires { F.IsAlwaysCallable run }
+{
+    let mut shortest = u128::MAX;
+    for _ in 0..RUNS {
+        let start = Instant::now(rt)?;
+        let found = run();
+        shortest = shortest.min(start.elapsed(rt)?.as_nanos());
+        found?;
     }
-
-    pub(crate) fn stop(&mut self, rt: &HostRuntime, start: Instant) -> anyhow::Result<()> {
-        let time = start.elapsed(rt)?.as_nanos();
-        self.0 = self.0.min(time);
-        Ok(())
-    }
-
-    pub(crate) fn tell(&self, rt: &HostRuntime, what: &str) -> anyhow::Result<()> {
-        let time = self.0;
-        eprintln!(rt; "{what} 512 firms, 4096 invoices: {time} ns, the shortest of {RUNS} runs")?;
-        if time >= LIMIT {
-            return Err(anyhow!("it takes too long"));
-        }
-        Ok(())
-    }
+    eprintln!(rt;
+        "{what} {MOST_FIRMS} firms, {MOST_INVOICES} invoices: {shortest} ns, the shortest of {RUNS} runs"
+    )?;
+    ensure!(shortest < LIMIT, "it takes too long");
+    Ok(())
 }

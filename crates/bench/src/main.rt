@@ -5,27 +5,27 @@
 mod clock;
 mod sums;
 
-use anyhow::anyhow;
-use clock::Shortest;
+use anyhow::{Result, anyhow};
+use clock::time;
 use day::{Invoice, MOST_CENTS, MOST_FIRMS, MOST_INVOICES, Room};
 use std::alloc::{AllocError, Global};
 
 const AMPLE: Room = Room {
     invoices: MOST_INVOICES,
-    numbers: 512,
-    rings: 514,
+    numbers: MOST_FIRMS as usize,
+    rings: MOST_FIRMS as usize + 2,
 };
 
 // As many invoices as a day may have, spread over all firms.
-fn largest(heap: Global) -> Result<Vec<Invoice>, AllocError> {
+fn largest(heap: Global) -> std::result::Result<Vec<Invoice>, AllocError> {
     let mut invoices = Vec::new(heap);
     let mut seed = 1u64;
     for _ in 0..MOST_INVOICES {
         seed = seed
             .wrapping_mul(6364136223846793005)
             .wrapping_add(1442695040888963407);
-        let from = ((seed >> 33) % 512) as u16;
-        let to = (from + 1 + ((seed >> 48) % 511) as u16) % MOST_FIRMS;
+        let from = ((seed >> 33) % u64::from(MOST_FIRMS)) as u16;
+        let to = (from + 1 + ((seed >> 48) % u64::from(MOST_FIRMS - 1)) as u16) % MOST_FIRMS;
         invoices.push(Invoice {
             from,
             to,
@@ -35,24 +35,20 @@ fn largest(heap: Global) -> Result<Vec<Invoice>, AllocError> {
     Ok(invoices)
 }
 
-fn main(rt: HostRuntime) -> anyhow::Result<()> {
+fn main(rt: HostRuntime) -> Result<()> {
     let heap = rt.alloc();
     let invoices = largest(heap)?;
     let file = day::write(heap, MOST_FIRMS, &invoices)?;
     let mut from = vec![in heap; 0u16; MOST_INVOICES]?;
     let mut to = vec![in heap; 0u16; MOST_INVOICES]?;
     let mut amount = vec![in heap; 0u64; MOST_INVOICES]?;
-    let mut reading = Shortest::new();
-    for _ in 0..clock::RUNS {
-        let start = clock::start(&rt)?;
-        let answer = day::read(&file, &mut from, &mut to, &mut amount, AMPLE);
-        reading.stop(&rt, start)?;
-        if answer.is_err() {
-            return Err(anyhow!("the day was refused"));
-        }
-    }
-    reading.tell(&rt, "read")?;
+    time(&rt, "read", || {
+        day::read(&file, &mut from, &mut to, &mut amount, AMPLE).map_err(|_| anyhow!(
+            "the day was refused"
+        ))?;
+        Ok(())
+    })?;
     let nothing = vec![in heap; 0u64; MOST_INVOICES]?;
-    let heights = vec![in heap; 0u16; 512]?;
-    sums::time(&rt, &from, &to, &amount, &nothing, &heights)
+    let heights = vec![in heap; 0u16; MOST_FIRMS as usize]?;
+    sums::time_sums(&rt, &from, &to, &amount, &nothing, &heights)
 }

@@ -8,3 +8,4 @@ pub mod Existence
 pub mod Days
 pub mod Examples
 pub mod Counted
+pub mod Ranges

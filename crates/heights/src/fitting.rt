@@ -1,41 +1,40 @@
 // Whether heights fit what is struck out. Where they do and every firm is even, nobody could strike out more.
-ghost use Rattle.std.specs.Prelude.{◌+◌, ◌<◌, ◌≤◌, Decides};
+ghost use Rattle.std.specs.Prelude.{◌≡◌, ◌<◌, length, Decides};
 ghost use Rattle.day.specs.Bills.{reads};
 ghost use Rattle.setoff.specs.Rows.{day_in, cents_in};
-ghost use Rattle.heights.specs.Rows.{Low, Answers};
-ghost use Rattle.heights.specs.Told.{Judges};
+ghost use Rattle.heights.specs.Rows.{Answers};
+ghost use Rattle.heights.specs.Told.{FitsAt, Judges};
 
-use crate::rejections::{Rejection, check};
-use setoff::Struck;
+use crate::low::Heights;
+use setoff::{Misfit, Struck};
 
-// Whether an invoice leads up by one at least where something is left of it, and by one at most where something is struck out.
-fn fits_at(amount: u64, cents: u64, from: u16, to: u16) -> bool
-    ensures { Decides result ((cents < amount → from + 1 ≤ to) × (0 < cents → to ≤ from + 1)) }
-{
-    (cents >= amount || from < to) && (cents == 0 || u32::from(to) <= u32::from(from) + 1)
-}
-
-// Whether heights that are low fit at each invoice.
-fn fits_each(struck: Struck, heights: &[u16]) -> bool
-    requires { Low struck.invoices.firms heights.now }
-    ensures { Judges (day_in struck.entry.invoices) (cents_in struck.entry) (reads heights.now) result }
-{
-    let invoices = struck.invoices;
-    for e in 0..invoices.from.len() {
-        let from = heights[invoices.from[e] as usize];
-        let to = heights[invoices.to[e] as usize];
-        if !fits_at(invoices.amount[e], struck.cents[e], from, to) {
-            return false;
-        }
+impl Heights<'_> {
+    // Whether an invoice leads up by one at least where something is left of it, and by one at most where something is struck out.
+    fn fits_at(self, struck: Struck, e: usize) -> bool
+        requires { (self.firms ≡ struck.invoices.firms) × (e < length struck.invoices.from.now) }
+        ensures { Decides result (FitsAt (day_in struck.entry.invoices) (cents_in struck.entry) (reads self.entry.of_firm.now) e) }
+    {
+        let invoices = struck.invoices;
+        let amount = invoices.amount[e];
+        let cents = struck.cents[e];
+        let from = self.of(invoices.from[e]);
+        let to = self.of(invoices.to[e]);
+        (cents >= amount || from < to) && (cents == 0 || u32::from(to) <= u32::from(from) + 1)
     }
-    true
+
+    // Whether each invoice is such a one. It goes by their numbers, since a zip of the four rows takes more than twice as long.
+    fn fits_each(self, struck: Struck) -> bool
+        requires { self.firms ≡ struck.invoices.firms }
+        ensures { Judges (day_in struck.entry.invoices) (cents_in struck.entry) (reads self.entry.of_firm.now) result }
+    {
+        (0..struck.cents.len()).all(|e| self.fits_at(struck, e))
+    }
 }
 
 // Whether heights, one for each firm and none above the number of firms, fit what is struck out.
-pub fn fit(struck: Struck, heights: &[u16]) -> Result<bool, Rejection>
+pub fn fit(struck: Struck, heights: &[u16]) -> Result<bool, Misfit>
     ensures { Answers struck.entry.invoices.firms heights.now (Judges (day_in struck.entry.invoices) (cents_in struck.entry) (reads heights.now)) result }
 {
-    let invoices = struck.invoices;
-    check(invoices.firms, heights)?;
-    Ok(fits_each(struck, heights))
+    let heights = Heights::new(struck.invoices.firms, heights)?;
+    Ok(heights.fits_each(struck))
 }

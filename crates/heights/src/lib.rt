@@ -3,9 +3,8 @@
 
 mod bounds;
 mod fitting;
-mod rejections;
+mod low;
 mod theorems;
 
 pub use bounds::bound;
 pub use fitting::fit;
-pub use rejections::Rejection;

@@ -1,7 +1,6 @@
 // The edges of each rule: which rows are sound, which cents can be struck out, which heights are taken.
 use crate::helpers::{Case, look};
 use day::MOST_CENTS;
-use heights::Rejection;
 use setoff::{Misfit, are_sound};
 use std::test::Fail;
 
@@ -75,17 +74,17 @@ fn cents_within(rt: HostRuntime) -> Result<(), Fail> {
 
 #[test]
 fn heights_low(rt: HostRuntime) -> Result<(), Fail> {
-    let cases: [(&[u16], Result<u64, Rejection>); 10] = [
-        (&[], Err(Rejection::Length(0))),
-        (&[3], Err(Rejection::Length(1))),
-        (&[0, 0, 0], Err(Rejection::Length(3))),
+    let cases: [(&[u16], Result<u64, Misfit>); 10] = [
+        (&[], Err(Misfit::Length(0))),
+        (&[3], Err(Misfit::Length(1))),
+        (&[0, 0, 0], Err(Misfit::Length(3))),
         (&[0, 0], Ok(17)),
         (&[0, 1], Ok(14)),
         (&[2, 0], Ok(30)),
         (&[0, 2], Ok(21)),
-        (&[3, 0], Err(Rejection::Above(0))),
-        (&[0, 3], Err(Rejection::Above(1))),
-        (&[u16::MAX, u16::MAX], Err(Rejection::Above(0))),
+        (&[3, 0], Err(Misfit::Above(0))),
+        (&[0, 3], Err(Misfit::Above(1))),
+        (&[u16::MAX, u16::MAX], Err(Misfit::Above(0))),
     ];
     for (heights, answer) in cases {
         assert_eq!(rt; look(pair(&[], heights))?.bound, answer);
@@ -101,10 +100,8 @@ fn largest_bound(rt: HostRuntime) -> Result<(), Fail> {
     let to = vec![in heap; 1u16; 4096]?;
     let amount = vec![in heap; MOST_CENTS; 4096]?;
     let cents = vec![in heap; MOST_CENTS; 4096]?;
-    let mut heights = vec![in heap; 512u16; 1]?;
-    for _ in 1..512 {
-        heights.push(0)?;
-    }
+    let mut heights = vec![in heap; 0u16; 512]?;
+    heights[0] = 512;
     let looked = look(Case {
         firms: 512,
         from: &from,

@@ -1,6 +1,6 @@
 // What the tests share: a case in rows, and all that is found of it.
-use heights::{Rejection, bound, fit};
-use setoff::{Invoices, Misfit, Struck, are_sound, first_uneven, total, within};
+use heights::{bound, fit};
+use setoff::{Invoices, Misfit, Struck, within};
 use std::process::Abort;
 use std::test::Fail;
 
@@ -15,6 +15,14 @@ pub(crate) struct Case<'a> {
     pub(crate) heights: &'a [u16],
 }
 
+impl<'a> Case<'a> {
+    fn invoices(self) -> Result<Invoices<'a>, Fail> {
+        Invoices::new(self.firms, self.from, self.to, self.amount).ok_or_else(|| Fail::new(
+            "the rows are not a sound day",
+        ))
+    }
+}
+
 #[derive(Clone, Copy, PartialEq, Eq, Debug)]
 pub(crate) struct Found {
     pub(crate) uneven: Option<u16>,
@@ -27,7 +35,7 @@ pub(crate) struct Found {
 #[derive(Clone, Copy, PartialEq, Eq, Debug)]
 pub(crate) struct Looked {
     pub(crate) cents: Result<(), Misfit>,
-    pub(crate) bound: Result<u64, Rejection>,
+    pub(crate) bound: Result<u64, Misfit>,
 }
 
 // A set-off whose total is the bound of heights that fit it.
@@ -40,36 +48,20 @@ pub(crate) fn greatest(total: u64) -> Found {
     }
 }
 
+fn turned_away(_: Misfit) -> Fail {
+    Fail::new("the heights are turned away")
+}
+
 pub(crate) fn find(case: Case) -> Result<Found, Fail> {
-    let firms = case.firms;
-    let from = case.from;
-    let to = case.to;
-    let amount = case.amount;
-    let cents = case.cents;
-    if !are_sound(firms, from, to, amount) {
-        return Err(Fail::new("the rows are not a sound day"));
-    }
-    let invoices = Invoices {
-        firms,
-        from,
-        to,
-        amount,
-    };
-    let Ok(()) = within(invoices, cents) else {
-        return Err(Fail::new("more is struck out than there is"));
-    };
-    let struck = Struck { invoices, cents };
-    let Ok(bound) = bound(invoices, case.heights) else {
-        return Err(Fail::new("the heights are turned away"));
-    };
-    let Ok(fit) = fit(struck, case.heights) else {
-        return Err(Fail::new("the heights are turned away"));
-    };
+    let invoices = case.invoices()?;
+    let struck = Struck::new(invoices, case.cents).map_err(|_| Fail::new(
+        "more is struck out than there is",
+    ))?;
     Ok(Found {
-        uneven: first_uneven(struck),
-        total: total(struck),
-        bound,
-        fit,
+        uneven: struck.first_uneven(),
+        total: struck.total(),
+        bound: bound(invoices, case.heights).map_err(turned_away)?,
+        fit: fit(struck, case.heights).map_err(turned_away)?,
     })
 }
 
@@ -79,19 +71,7 @@ pub(crate) fn expect(rt: &impl Abort, case: Case, found: Found) -> Result<(), Fa
 }
 
 pub(crate) fn look(case: Case) -> Result<Looked, Fail> {
-    let firms = case.firms;
-    let from = case.from;
-    let to = case.to;
-    let amount = case.amount;
-    if !are_sound(firms, from, to, amount) {
-        return Err(Fail::new("the rows are not a sound day"));
-    }
-    let invoices = Invoices {
-        firms,
-        from,
-        to,
-        amount,
-    };
+    let invoices = case.invoices()?;
     Ok(Looked {
         cents: within(invoices, case.cents),
         bound: bound(invoices, case.heights),

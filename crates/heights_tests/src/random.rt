@@ -23,7 +23,7 @@ impl Random {
     }
 }
 
-// The rows of a day, invoice by invoice.
+// The rows of a day, invoice by invoice, as the library takes them.
 #[derive(Drop)]
 struct Rows {
     from: Vec<u16>,
@@ -65,6 +65,17 @@ impl Rows {
         }
         Ok(())
     }
+
+    fn case<'a>(&'a self, firms: u16, heights: &'a [u16]) -> Case<'a> {
+        Case {
+            firms,
+            from: &self.from,
+            to: &self.to,
+            amount: &self.amount,
+            cents: &self.cents,
+            heights,
+        }
+    }
 }
 
 // A firm that is not this one.
@@ -97,14 +108,7 @@ fn closed_walks(rt: HostRuntime) -> Result<(), Fail> {
             rows.walk(&mut random, firms, steps)?;
         }
         let heights = heights(heap, &mut random, firms)?;
-        let found = find(Case {
-            firms,
-            from: &rows.from,
-            to: &rows.to,
-            amount: &rows.amount,
-            cents: &rows.cents,
-            heights: &heights,
-        })?;
+        let found = find(rows.case(firms, &heights))?;
         assert_eq!(rt; found.uneven, None);
         assert!(rt; found.total <= found.bound);
         assert_eq!(rt; found.fit, found.total == found.bound);
@@ -127,14 +131,7 @@ fn one_cent_less(rt: HostRuntime) -> Result<(), Fail> {
         rows.cents[e] = rows.cents[e].saturating_sub(1);
         let first = rows.from[e].min(rows.to[e]);
         let heights = heights(heap, &mut random, firms)?;
-        let found = find(Case {
-            firms,
-            from: &rows.from,
-            to: &rows.to,
-            amount: &rows.amount,
-            cents: &rows.cents,
-            heights: &heights,
-        })?;
+        let found = find(rows.case(firms, &heights))?;
         assert_eq!(rt; found.uneven, Some(first));
     }
     Ok(())

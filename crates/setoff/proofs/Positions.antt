@@ -1,7 +1,10 @@
 -- A set-off keeps each firm's position. Assumes nothing.
-use Rattle.std.proofs.Common.{◌≡◌, ℕ, ◌+◌, ◌-◌, ◌≤◌, Bool, true, false, eqb, sym, ◌∙◌, arith}
+use Rattle.std.proofs.Common.{◌≡◌, ℕ, ◌+◌, ◌-◌, ◌<◌, ◌≤◌, ◌≢◌, Bool, true, false, eqb, Option, Some, None, MatchOption, sym, ◌∙◌, arith}
 use Rattle.day.specs.Bills.{Day, pick, span, let_off, lets_off, SetOff}
 use Rattle.setoff.specs.Promise.{owes, is_owed, left_by, PositionKept}
+use Rattle.setoff.specs.Rows.{day_in, cents_in}
+use Rattle.setoff.specs.Uneven.{Evenness}
+use Rattle.setoff.specs.declared.struck.Struck.{Struck}
 use Rattle.setoff.proofs.Spans.{span-add, span_ext}
 
 -- what is left and what is struck out are the whole, by the invoices at a firm
@@ -24,3 +27,17 @@ position_kept d s v set there =
     let q = left_and_struck d s d.to v set in
     let even = set.even v there in
     omega arith
+
+-- where no firm is uneven, the cents are a set-off, and so each position is kept
+pub first_evenness : (s : Struck) (r : Option ℕ) →
+    let d = day_in s.invoices in
+    let Even = λ (v : ℕ). v < d.firms → let_off d (cents_in s) v ≡ lets_off d (cents_in s) v in
+    MatchOption r ((v : ℕ) → 0 ≤ v → v < d.firms → Even v)
+    (λ v. (0 ≤ v) × (v < d.firms) × (v < d.firms → let_off d (cents_in s) v ≢ lets_off d (cents_in s) v) × ((u : ℕ) → 0 ≤ u → u < v → Even u)) →
+    Evenness d (cents_in s) r
+unfolding PositionKept
+first_evenness s None even =
+    let d = day_in s.invoices in
+    let set : SetOff d (cents_in s) = record { within = s.within; even = λ v there. even v (omega arith) there there } in
+    record { set_off = set; kept = λ v there. position_kept d (cents_in s) v set there }
+first_evenness s (Some v) found = (found.1, found.2 found.1, λ u l. found.3 u (omega arith) l (omega (arith, found.1)))

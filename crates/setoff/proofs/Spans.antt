@@ -1,7 +1,8 @@
 -- Laws of sums over places, and how a sum by firms is one over invoices. Assumes nothing.
-use Rattle.std.proofs.Common.{◌≡◌, ℕ, zero, suc, ◌+◌, ◌*◌, ◌<◌, ◌≤◌, true, false, eqb, ◌≢◌, sym, refl, ap, ◌∙◌, inl, inr, arith}
+use Rattle.std.proofs.Common.{◌≡◌, ℕ, zero, suc, ◌+◌, ◌*◌, ◌<◌, ◌≤◌, true, false, eqb, ◌≢◌, List, [], ◌∷◌, length, sum, sym, refl, ap, ◌∙◌, inl, inr, arith}
 use Rattle.std.proofs.lemmas.Bool.{eq-eqb, ne_eqb, cases_eq}
-use Rattle.day.specs.Bills.{pick, span}
+use Rattle.std.proofs.lemmas.List.Sums.{sum_by-cons}
+use Rattle.day.specs.Bills.{pick, span, reads}
 
 -- a choice by whether two numbers are equal
 pub pick_same : {A : Type 0} (a b : ℕ) (x y : A) → a ≡ b → pick (eqb a b) x y ≡ x
@@ -94,6 +95,12 @@ pub span_shift : (f : ℕ → ℕ) (k : ℕ) → span (λ j. f (suc j)) k + f 0 
 unfolding span
 span_shift f zero = omega arith
 span_shift f (suc k) = let ih = span_shift f k in omega arith
+
+-- a row's sum, place by place, is the list's
+pub span_reads : (xs : List ℕ) → span (reads xs) (length xs) ≡ sum xs
+unfolding span
+span_reads [] = refl
+span_reads (x ∷ xs) = omega (arith, span_shift (reads (x ∷ xs)) (length xs), span_reads xs, sum_by-cons (λ y. y) x xs)
 
 -- weighing: to weigh each number by its firm is to weigh each firm's sum
 pub weigh : (s h place : ℕ → ℕ) (k n : ℕ) → ((e : ℕ) → e < k → place e < n) →

@@ -1,6 +1,8 @@
 // The invoices of a day in lent rows, sound by their type.
-ghost use Rattle.std.specs.Prelude.{◌≡◌, ℕ, ◌^◌, ◌<◌, ◌≤◌, ◌≢◌, length};
-ghost use Rattle.day.specs.Bills.{reads};
+ghost use Rattle.std.specs.Prelude.{◌≡◌, ◌↔◌, IsSome, IfSome};
+ghost use Rattle.setoff.specs.Sound.{SoundRows};
+
+use crate::soundness::are_sound;
 
 // Who owes, who is owed and the cents of each invoice, on a day of so many firms.
 #[derive(Clone, Copy)]
@@ -9,18 +11,24 @@ pub struct Invoices<'a> {
     pub from: &'a [u16],
     pub to: &'a [u16],
     pub amount: &'a [u64],
-    // each row has a place for each invoice
-    ghost to_each: { length to.now ≡ length from.now },
-    ghost amount_each: { length amount.now ≡ length from.now },
-    // the day is within its limits
-    ghost some_firm: { 1 ≤ firms },
-    ghost few_firms: { firms ≤ 512 },
-    ghost few_invoices: { length from.now ≤ 4096 },
-    // both firms of each invoice are there, and are two
-    ghost from_there: { (e : ℕ) → e < length from.now → reads from.now e < firms },
-    ghost to_there: { (e : ℕ) → e < length from.now → reads to.now e < firms },
-    ghost two_firms: { (e : ℕ) → e < length from.now → reads from.now e ≢ reads to.now e },
-    // and its amount is within the limits
-    ghost some_cents: { (e : ℕ) → e < length from.now → 1 ≤ reads amount.now e },
-    ghost few_cents: { (e : ℕ) → e < length from.now → reads amount.now e ≤ 10 ^ 12 },
+    // the rows have a place for each invoice, and the day is within its limits
+    ghost sound: { SoundRows firms from.now to.now amount.now },
+}
+
+impl<'a> Invoices<'a> {
+    // These rows, where they are a sound day.
+    pub fn new(firms: u16, from: &'a [u16], to: &'a [u16], amount: &'a [u64]) -> Option<Self>
+        ensures some { IsSome result ↔ SoundRows firms from.now to.now amount.now }
+        ensures rows { IfSome result (λ i. (i.firms ≡ firms) × (i.from.now ≡ from.now) × (i.to.now ≡ to.now) × (i.amount.now ≡ amount.now)) }
+    {
+        if !are_sound(firms, from, to, amount) {
+            return None;
+        }
+        Some(Invoices {
+            firms,
+            from,
+            to,
+            amount,
+        })
+    }
 }

@@ -9,9 +9,7 @@ mod struck;
 mod sums;
 mod theorems;
 
-pub use evenness::first_uneven;
 pub use invoices::Invoices;
 pub use misfits::{Misfit, within};
 pub use soundness::are_sound;
 pub use struck::Struck;
-pub use sums::{let_off, lets_off, total};

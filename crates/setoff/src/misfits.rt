@@ -1,15 +1,15 @@
-// Whether a row of cents can be struck out of a day's invoices, and if not, why.
+// Whether a row of cents can be struck out of a day's invoices, and why a row with a limit to each of its numbers does not fit.
 ghost use Rattle.setoff.specs.Strike.{Strikes};
 ghost use Rattle.setoff.specs.Rows.{day_in};
 
 use crate::invoices::Invoices;
 
-// Why a row of cents does not fit.
+// Why a row of numbers, each with a limit, does not fit.
 #[derive(Clone, Copy, PartialEq, Eq, Debug)]
 pub enum Misfit {
-    // the row is not as long as there are invoices; its length
+    // the row has not one number for each limit; how many it has
     Length(usize),
-    // the first invoice of which more is struck out than it is
+    // the place of the first number that is above its limit
     Above(usize),
 }
 
@@ -20,10 +20,12 @@ pub fn within(invoices: Invoices, cents: &[u64]) -> Result<(), Misfit>
     if cents.len() != invoices.amount.len() {
         return Err(Misfit::Length(cents.len()));
     }
-    for e in 0..cents.len() {
-        if invoices.amount[e] < cents[e] {
-            return Err(Misfit::Above(e));
-        }
+    match cents
+        .iter()
+        .zip(invoices.amount)
+        .position(|(cents, amount)| cents > amount)
+    {
+        Some(e) => Err(Misfit::Above(e)),
+        None => Ok(()),
     }
-    Ok(())
 }

@@ -1,19 +1,19 @@
 // Whether lent rows are a sound day, so that a caller who tests them can make `Invoices` of them.
-ghost use Rattle.std.specs.Prelude.{◌^◌, ◌<◌, ◌≤◌, ◌≢◌, Decides};
-ghost use Rattle.setoff.specs.Rows.{SoundRows};
+ghost use Rattle.std.specs.Prelude.{◌^◌, ◌<◌, ◌≤◌, ◌≢◌, ◌↔◌, IsTrue};
+ghost use Rattle.setoff.specs.Sound.{SoundRows};
 
 use day::{Invoice, MOST_CENTS, MOST_FIRMS, MOST_INVOICES};
 
 // Whether there is a firm, and neither too many firms nor too many invoices.
 fn fits_limits(firms: u16, invoices: usize) -> bool
-    ensures { Decides result ((1 ≤ firms) × (firms ≤ 512) × (invoices ≤ 4096)) }
+    ensures { IsTrue result ↔ ((1 ≤ firms) × (firms ≤ 512) × (invoices ≤ 4096)) }
 {
     1 <= firms && firms <= MOST_FIRMS && invoices <= MOST_INVOICES
 }
 
 // Whether an invoice is one between two of the firms, of some cents and not of too many.
 fn is_sound(firms: u16, invoice: Invoice) -> bool
-    ensures { Decides result ((invoice.from < firms) × (invoice.to < firms) × (invoice.from ≢ invoice.to) × (1 ≤ invoice.amount) × (invoice.amount ≤ 10 ^ 12)) }
+    ensures { IsTrue result ↔ ((invoice.from < firms) × (invoice.to < firms) × (invoice.from ≢ invoice.to) × (1 ≤ invoice.amount) × (invoice.amount ≤ 10 ^ 12)) }
 {
     invoice.from < firms
         && invoice.to < firms
@@ -24,20 +24,13 @@ fn is_sound(firms: u16, invoice: Invoice) -> bool
 
 // Whether the rows have a place for each invoice and keep the limits of a clearing day.
 pub fn are_sound(firms: u16, from: &[u16], to: &[u16], amount: &[u64]) -> bool
-    ensures { Decides result (SoundRows firms from.now to.now amount.now) }
+    ensures { IsTrue result ↔ (SoundRows firms from.now to.now amount.now) }
 {
     if to.len() != from.len() || amount.len() != from.len() || !fits_limits(firms, from.len()) {
         return false;
     }
-    for e in 0..from.len() {
-        let invoice = Invoice {
-            from: from[e],
-            to: to[e],
-            amount: amount[e],
-        };
-        if !is_sound(firms, invoice) {
-            return false;
-        }
-    }
-    true
+    from.iter().zip(to).zip(amount).all(|((&from, &to), &amount)| is_sound(
+        firms,
+        Invoice { from, to, amount },
+    ))
 }

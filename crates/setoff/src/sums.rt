@@ -5,34 +5,44 @@ ghost use Rattle.setoff.specs.Rows.{day_in, cents_in};
 
 use crate::struck::Struck;
 
-// What is struck out of the invoices at which the firm stands in a row, as in that of who owes and in that of who is owed.
-fn share_of(struck: Struck, row: &[u16], firm: u16) -> u64
-    requires { length row.now ≡ length struck.cents.now }
-    ensures sum { result ≡ span (λ e. pick (reads row.now e == firm) (cents_in struck.entry e) 0) (length row.now) }
-    ensures owing { row.now ≡ struck.entry.invoices.from.now → result ≡ let_off (day_in struck.entry.invoices) (cents_in struck.entry) firm }
-    ensures owed { row.now ≡ struck.entry.invoices.to.now → result ≡ lets_off (day_in struck.entry.invoices) (cents_in struck.entry) firm }
-{
-    let mut sum = 0;
-    for e in 0..row.len() {
-        if row[e] == firm {
-            sum += struck.cents[e];
+impl Struck<'_> {
+    // What is struck out of the invoices at which the firm stands in a row, as in that of who owes and in that of who is owed.
+    fn share_of(self, row: &[u16], firm: u16) -> u64
+        requires { length row.now ≡ length self.cents.now }
+        ensures { result ≡ span (λ e. pick (reads row.now e == firm) (cents_in self.entry e) 0) (length row.now) }
+    {
+        let mut sum = 0;
+        // a zip of the two rows, in a loop or a chain, takes from 1.6 to 3 times as long
+        for (e, at) in row.iter().enumerate() {
+            if *at == firm {
+                sum += self.cents[e];
+            }
         }
+        sum
     }
-    sum
-}
 
-// What the firm is let off, on the invoices that it owes.
-pub fn let_off(struck: Struck, firm: u16) -> u64
-    ensures { result ≡ let_off (day_in struck.entry.invoices) (cents_in struck.entry) firm }
-{
-    share_of(struck, struck.invoices.from, firm)
-}
+    // What the firm is let off, on the invoices that it owes.
+    #[tactic(auto, unfolding(day::specs::Bills::let_off))]
+    pub fn let_off(self, firm: u16) -> u64
+        ensures { result ≡ let_off (day_in self.entry.invoices) (cents_in self.entry) firm }
+    {
+        self.share_of(self.invoices.from, firm)
+    }
 
-// What the firm lets others off, on the invoices that are owed to it.
-pub fn lets_off(struck: Struck, firm: u16) -> u64
-    ensures { result ≡ lets_off (day_in struck.entry.invoices) (cents_in struck.entry) firm }
-{
-    share_of(struck, struck.invoices.to, firm)
+    // What the firm lets others off, on the invoices that are owed to it.
+    #[tactic(auto, unfolding(day::specs::Bills::lets_off))]
+    pub fn lets_off(self, firm: u16) -> u64
+        ensures { result ≡ lets_off (day_in self.entry.invoices) (cents_in self.entry) firm }
+    {
+        self.share_of(self.invoices.to, firm)
+    }
+
+    // What is struck out in all.
+    pub fn total(self) -> u64
+        ensures { result ≡ total (day_in self.entry.invoices) (cents_in self.entry) }
+    {
+        sum_of(self.cents)
+    }
 }
 
 // The sum of a row of few numbers, none of them large.
@@ -41,16 +51,5 @@ fn sum_of(row: &[u64]) -> u64
     requires small { (e : ℕ) → e < length row.now → reads row.now e ≤ 10 ^ 12 }
     ensures { result ≡ span (reads row.now) (length row.now) }
 {
-    let mut sum = 0;
-    for cents in row {
-        sum += *cents;
-    }
-    sum
-}
-
-// What is struck out in all.
-pub fn total(struck: Struck) -> u64
-    ensures { result ≡ total (day_in struck.entry.invoices) (cents_in struck.entry) }
-{
-    sum_of(struck.cents)
+    row.iter().sum()
 }

@@ -1,17 +1,16 @@
--- One number more, and all of them together are small.
-use Rattle.std.proofs.Common.{◌^◌, sym, arith}
+-- The sum is the list's, which is that of all its places; so few numbers, none of them large, fit 64 bits.
+use Rattle.std.proofs.Common.{rules, ◌<◌, ◌^◌, length, sum, arith}
+use Rattle.std.proofs.lemmas.Iterator.{YieldsList-from_slice}
+use Rattle.std.proofs.lemmas.Iterator.Consumers.{fits_from_yields_list}
 use Rattle.day.specs.Bills.{reads}
-use Rattle.setoff.proofs.Spans.{span-zero, span_more, span_bound}
+use Rattle.setoff.proofs.Spans.{span_reads, span_bound}
 use Rattle.setoff.proofs.sums.sum_of.Goals as goal
 
-pub loop-cents-init : goal.loop-cents-init
-loop-cents-init c = sym (span-zero (reads c.args.row.now))
+pub sum-requires-clause-fits : goal.sum-requires-clause-fits
+sum-requires-clause-fits c =
+    let row = c.args.row.now in
+    let fits : sum row < 2 ^ 64 = omega (arith, span_reads row, span_bound (reads row) (10 ^ 12) (length row) c.requires.small, c.requires.few) in
+    fits_from_yields_list c.iter.result _ (YieldsList-from_slice row cc) fits
 
-pub overflow_add-sum : goal.overflow_add-sum
-overflow_add-sum c =
-    let row = reads c.args.row.now in
-    let k = c.loop-cents.cents-index in
-    omega (arith, c.requires.small k (omega arith), span_bound row (10 ^ 12) k (λ e l. c.requires.small e (omega arith)), c.requires.few)
-
-pub loop-cents-preserved : goal.loop-cents-preserved
-loop-cents-preserved c = omega (arith, span_more (reads c.args.row.now) c.loop-cents.cents-index)
+pub returns : goal.returns
+returns c = search (rules, span_reads)

@@ -2,7 +2,7 @@
 use Rattle.std.proofs.Common.{◌≡◌}
 use Rattle.day.specs.Bills.{reads}
 use Rattle.setoff.proofs.Portions.{share}
-use Rattle.setoff.proofs.sums.share_of.Given as goal
+use Rattle.setoff.proofs.struck.Struck.share_of.Given as goal
 
 abbrev pub invariant-loop-e : goal.invariant-loop-e
-invariant-loop-e l = l.sum ≡ share (reads l.row) (reads l.struck.cents.now) l.firm l.e
+invariant-loop-e l = l.sum ≡ share (reads l.row) (reads l.self.cents.now) l.firm l.e
