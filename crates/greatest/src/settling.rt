@@ -46,8 +46,9 @@ pub(crate) fn settle(
     scratch.number.fill(0);
     scratch.last.fill(0);
     scratch.ring.fill(0);
-    setoff::total(Struck {
+    let struck = Struck {
         invoices,
         cents: struck,
-    })
+    };
+    struck.total()
 }

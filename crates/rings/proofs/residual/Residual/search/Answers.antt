@@ -9,7 +9,7 @@ use Rattle.rings.specs.Residual.{residual_in}
 use Rattle.rings.specs.Scratch.{SameRows}
 use Rattle.rings.proofs.Rounds.{lasts_there}
 use Rattle.rings.proofs.Sweeps.{Swept, Sweeping, swept_none, swept_same, swept_more, sweeping_kept, sweeping_raised, sweeping_passed, raising, finds_high, rings}
-use Rattle.rings.proofs.Units.{lawful}
+use Rattle.rings.proofs.Laws.{lawful}
 use Rattle.rings.proofs.residual.Residual.search.Goals as goal
 use Rattle.rings.proofs.residual.Residual.search.Goals.{in-Some+else-scratch-from, in_default, in-Some-raised+in_default-follow, in_default-raised}
 

@@ -5,7 +5,7 @@ use Rattle.std.proofs.lemmas.Int.{ints}
 use Rattle.rings.specs.Numbers.{levels}
 use Rattle.rings.specs.Residual.{residual_in}
 use Rattle.rings.specs.Ways.{step_in}
-use Rattle.rings.proofs.Units.{lawful}
+use Rattle.rings.proofs.Laws.{lawful}
 use Rattle.rings.proofs.residual.Residual.try_step.Goals as goal
 
 -- what a step leads to, as the code computes it
