@@ -1,6 +1,7 @@
 -- A round of the search as it goes: what holds after the steps that were tried, by the node that was raised last. Assumes nothing.
 use Rattle.std.proofs.Common.{◌≡◌, ℕ, suc, ◌+◌, ◌-◌, ◌<◌, List, length, get_or, set, ℤ, pos, Some, None, Option, sym, ap, ◌∙◌, subst, subst₂, inl, inr, arith}
-use Rattle.std.proofs.lemmas.List.{get_or-set_same, get_or-set_other}
+use Rattle.std.proofs.lemmas.Grind.{get_or-set_at}
+use Rattle.std.proofs.lemmas.List.{get_or-set_other}
 use Rattle.std.proofs.lemmas.Bool.{cases_eq}
 use Rattle.day.specs.Bills.{reads}
 use Rattle.heights.specs.Residual.{Steps, Open, Fitted}
@@ -26,8 +27,7 @@ row-set f d row v x there = λ i w. at w i
   where
     at : (w : ℕ) → put (λ w. f (get_or row w d)) v (f x) w ≡ f (get_or (set row v x) w d)
     at w = elim (cases_eq w v) [
-      | inl same ↦
-          put_same (λ w. f (get_or row w d)) v (f x) w same ∙ sym (ap (λ u. f (get_or (set row v x) u d)) same ∙ ap f (get_or-set_same row v x d there))
+      | inl same ↦ put_same (λ w. f (get_or row w d)) v (f x) w same ∙ sym (ap f (get_or-set_at row v w x d same there))
       | inr other ↦ put_other (λ w. f (get_or row w d)) v (f x) w other ∙ sym (ap f (get_or-set_other row v w x d other))
     ]
 

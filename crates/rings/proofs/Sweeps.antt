@@ -1,6 +1,7 @@
 -- What holds between two rounds of the search, and inside a round between two arcs. Assumes nothing.
-use Rattle.std.proofs.Common.{◌≡◌, ℕ, suc, ◌+◌, ◌-◌, ◌*◌, ◌<◌, ◌≤◌, length, get_or, set, replicate, pos, Some, None, Option, sym, refl, ap, ◌∙◌, subst, subst₂, inl, inr, arith}
+use Rattle.std.proofs.Common.{List, ℤ, ◌≢◌, ◌≡◌, ℕ, suc, ◌+◌, ◌-◌, ◌*◌, ◌<◌, ◌≤◌, length, get_or, set, replicate, pos, Some, None, Option, sym, refl, ap, ◌∙◌, subst, subst₂, inl, inr, arith}
 use Rattle.std.proofs.lemmas.List.{get_or-replicate, get_or_past, length-replicate, get_or-set_same, get_or-set_other, length-set}
+use Rattle.std.proofs.lemmas.Grind.{get_or-set_at}
 use Rattle.std.proofs.lemmas.Bool.{cases_eq, cases_lt, false≢true}
 use Rattle.day.specs.Bills.{reads}
 use Rattle.heights.specs.Residual.{Steps, AllFitted}
@@ -40,6 +41,20 @@ zeros f d none n v = elim (cases_lt v n) [
   | inl l ↦ ap f (get_or-replicate n v d d l) ∙ none
   | inr past ↦ ap f (get_or_past (replicate n d) v d (omega (arith, length-replicate n d))) ∙ none
 ]
+
+below-set : (n : ℕ) (row : List ℤ) (v x : ℕ) → v < n → x < n → Below n n row → Below n n (set row v (pos x))
+below-set n row v x there low at =
+    record {
+      each = length-set row v (pos x) ∙ at.each;
+      exact = λ u l. elim (cases_eq u v) [ inl same ↦ new u same ∙ ap pos (sym (ap natural (new u same))) | inr other ↦ old u other ∙ at.exact u l ∙ ap pos (sym (ap natural (old u other))) ];
+      low = λ u l. elim (cases_eq u v) [ inl same ↦ omega (arith, ap natural (new u same)) | inr other ↦ omega (arith, ap natural (old u other), at.low u l) ];
+    }
+  where
+    new : (u : ℕ) → u ≡ v → get_or (set row v (pos x)) u (pos 0) ≡ pos x
+    new u same = get_or-set_at row v u (pos x) (pos 0) same (omega (arith, at.each))
+
+    old : (u : ℕ) → u ≢ v → get_or (set row v (pos x)) u (pos 0) ≡ get_or row u (pos 0)
+    old u other = get_or-set_other row v u (pos x) (pos 0) other
 
 -- last steps that lead into a ring lead into one that gains
 pub rings : (S : Steps) (k i : ℕ) (w w' : Scratch) → Searched S k i (levels w.number.now) (reads w.last.now) → (m : ℕ) →
@@ -99,69 +114,44 @@ module _ (S : Steps) (law : Lawful S) where
         by num last None ends late (kept, fitted) = λ f o. fitted f o (subst (λ i. f < i) (sym all) o.0)
         by num last (Some v) ends late (there, (kept, now)) = absurd (late_goes_on S (rounds + 1) (2 * e) num last kept law v (omega (arith, now)) (ends v refl))
 
-    module _ (w' : Scratch) where
-      -- a raised node has an exact number, and where it is low, all are
-      raised_exact : (i v : ℕ) → Below S.nodes S.nodes w.number.now → v < S.nodes → Raised S i w w' v → (u : ℕ) → u < S.nodes →
-          get_or w'.number.now u (pos 0) ≡ pos (levels w'.number.now u)
-      raised_exact i v low there up u l =
-          let num = w.number.now in
-          let x = (levels num (S.tail i) + S.up i) - S.down i in
-          let each = low.each in
-          subst (λ row. get_or row u (pos 0) ≡ pos (levels row u)) (sym up.number)
-          (elim (cases_eq u v) [
-            | inl same ↦
-                let new = ap (λ t. get_or (set num v (pos x)) t (pos 0)) same ∙ get_or-set_same num v (pos x) (pos 0) (omega arith) in
-                new ∙ ap pos (sym (ap natural new))
-            | inr other ↦
-                let old = get_or-set_other num v u (pos x) (pos 0) other in
-                old ∙ low.exact u l ∙ ap pos (sym (ap natural old))
-          ])
-
-      raised_low : (i v : ℕ) → Below S.nodes S.nodes w.number.now → Raised S i w w' v → levels w'.number.now v < S.nodes → (u : ℕ) → u < S.nodes → levels w'.number.now u < S.nodes
-      raised_low i v low up here u l = elim (cases_eq u v) [
-        | inl same ↦ subst (λ t. levels w'.number.now t < S.nodes) (sym same) here
-        | inr other ↦
-            let x = (levels w.number.now (S.tail i) + S.up i) - S.down i in
-            let old = ap (λ row. levels row u) up.number ∙ ap natural (get_or-set_other w.number.now v u (pos x) (pos 0) other) in
-            omega (arith, low.low u l)
-      ]
-
+    module _ (w' : Scratch) (raised : Option ℕ) where
       which : (v : ℕ) → ArcTried S e w w' (Some v) → (i : ℕ) × Raised S i w w' v
       which v tried = elim tried [ inl (some, first) ↦ (2 * e, first) | inr (fitted, second) ↦ (2 * e + 1, second) ]
 
       raised_there : (i v : ℕ) → Raised S i w w' v → v < S.nodes
       raised_there i v up = subst (λ u. u < S.nodes) (sym up.node) (law.heads i up.there.0)
 
-      goes_on : (r raised : Option ℕ) → ArcTried S e w w' r → Sweeping S rounds e w raised → Going S (rounds + 1) (2 * (e + 1)) (levels w'.number.now) (reads w'.last.now) (later r raised)
-      goes_on r raised tried at = arc_on S (rounds + 1) e law w w' at.numbers.each at.each r raised tried at.going
+      -- the number of a node that was raised, as it was written
+      written : (i v : ℕ) → Raised S i w w' v → Sweeping S rounds e w raised → get_or w'.number.now v (pos 0) ≡ pos ((levels w.number.now (S.tail i) + S.up i) - S.down i)
+      written i v up at = ap (λ row. get_or row v (pos 0)) up.number ∙ get_or-set_same w.number.now v _ (pos 0) (omega (arith, raised_there i v up, at.numbers.each))
 
-      pub raising : (v : ℕ) (raised : Option ℕ) → ArcTried S e w w' (Some v) → Sweeping S rounds e w raised → Raising S rounds e w' v
-      raising v raised tried at =
+      goes_on : (r : Option ℕ) → ArcTried S e w w' r → Sweeping S rounds e w raised → Going S (rounds + 1) (2 * (e + 1)) (levels w'.number.now) (reads w'.last.now) (later r raised)
+      goes_on r tried at = arc_on S (rounds + 1) e law w w' at.numbers.each at.each r raised tried at.going
+
+      pub raising : (v : ℕ) → ArcTried S e w w' (Some v) → Sweeping S rounds e w raised → Raising S rounds e w' v
+      raising v tried at =
           let (i, up) = which v tried in
-          let there = raised_there i v up in
-          record { there = there; exact = raised_exact i v at.numbers there up v there; kept = (goes_on (Some v) raised tried at).1.0 }
+          let new = written i v up at in
+          record { there = raised_there i v up; exact = new ∙ ap pos (sym (ap natural new)); kept = (goes_on (Some v) tried at).1.0 }
 
       -- one arc more, which raised a node to a low number, or none
-      pub sweeping_raised : (v : ℕ) (raised : Option ℕ) → ArcTried S e w w' (Some v) → levels w'.number.now v < S.nodes → Sweeping S rounds e w raised → Sweeping S rounds (e + 1) w' (Some v)
-      sweeping_raised v raised tried low at =
+      pub sweeping_raised : (v : ℕ) → ArcTried S e w w' (Some v) → levels w'.number.now v < S.nodes → Sweeping S rounds e w raised → Sweeping S rounds (e + 1) w' (Some v)
+      sweeping_raised v tried low at =
           let (i, up) = which v tried in
+          let below = subst (λ x. x < S.nodes) (ap natural (written i v up at)) low in
           record {
-            numbers = record {
-              each = ap length up.number ∙ length-set w.number.now v _ ∙ at.numbers.each;
-              exact = raised_exact i v at.numbers (raised_there i v up) up;
-              low = raised_low i v at.numbers up low;
-            };
+            numbers = subst (Below S.nodes S.nodes) (sym up.number) (below-set S.nodes w.number.now v _ (raised_there i v up) below at.numbers);
             each = ap length up.step ∙ length-set w.last.now v _ ∙ at.each;
-            going = goes_on (Some v) raised tried at;
+            going = goes_on (Some v) tried at;
           }
 
-      pub sweeping_passed : (raised : Option ℕ) → ArcTried S e w w' None → Sweeping S rounds e w raised → Sweeping S rounds (e + 1) w' raised
-      sweeping_passed raised tried at = elim tried [
+      pub sweeping_passed : ArcTried S e w w' None → Sweeping S rounds e w raised → Sweeping S rounds (e + 1) w' raised
+      sweeping_passed tried at = elim tried [
         | inl (some, first) ↦ absurd (false≢true some)
         | inr (fitted, (same, same', step)) ↦ record {
           numbers = subst (Below S.nodes S.nodes) (sym same) at.numbers;
           each = ap length same' ∙ at.each;
-          going = goes_on None raised (inr (fitted, (same, same', step))) at;
+          going = goes_on None (inr (fitted, (same, same', step))) at;
         }
       ]
 

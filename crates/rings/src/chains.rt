@@ -31,6 +31,7 @@ impl Scratch<'_> {
         ensures kept { RingWritten self.old self.new }
     {
         let mut at = start;
+        // by place: it says how many steps are written
         for m in 0..self.ring.len() {
             let Some(way) = self.last_step(at) else {
                 break;

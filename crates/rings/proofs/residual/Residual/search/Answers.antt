@@ -35,7 +35,7 @@ follow-found-requires-clause-steps c v l =
     let S = residual_in c.args.self in
     let e = c.arcs.e in
     let w = c.try_arc.new.scratch in
-    let up = raising S (lawful c.args.self) c.rounds.counter e c.arcs.scratch w c.in-Some.v c.arcs.raised c.in-Some.ensures.tried c.arcs.invariant.sweeping in
+    let up = raising S (lawful c.args.self) c.rounds.counter e c.arcs.scratch w c.arcs.raised c.in-Some.v c.in-Some.ensures.tried c.arcs.invariant.sweeping in
     lasts_there S (c.rounds.counter + 1) (2 * (e + 1)) (levels w.number.now) (reads w.last.now) up.kept v
 
 pub arcs-preserved : goal.arcs-preserved
@@ -51,12 +51,12 @@ arcs-preserved c =
         | in-Some+else-scratch-from w ↦
             let v = w.in-Some.v in
             let tried = w.in-Some.ensures.tried in
-            let up = raising S (lawful c.args.self) round e c.arcs.scratch w' v c.arcs.raised tried at in
+            let up = raising S (lawful c.args.self) round e c.arcs.scratch w' c.arcs.raised v tried at in
             let z = get_or num w.from.result (pos 0) in
             let fits : SFits w32 z = search rules in
             let low = lower z (levels num v) S.nodes w.from-in-Some.result (ap (λ i. get_or num i (pos 0)) w.from.ensures ∙ up.exact) w.from-in-Some.ensures fits
             (omega (arith, c.args.self.network.few_nodes)) w.if-scratch-from.false in
-            subst (Sweeping S round (e + 1) w') (sym w.raised-is) (sweeping_raised S (lawful c.args.self) round e c.arcs.scratch w' v c.arcs.raised tried low at)
+            subst (Sweeping S round (e + 1) w') (sym w.raised-is) (sweeping_raised S (lawful c.args.self) round e c.arcs.scratch w' c.arcs.raised v tried low at)
         | in_default w ↦
             subst (Sweeping S round (e + 1) w') (sym w.raised-is)
             (sweeping_passed S (lawful c.args.self) round e c.arcs.scratch w' c.arcs.raised w.in_default.ensures.tried at)
@@ -105,7 +105,7 @@ returns-then-scratch-from-clause-searches c =
     let v = c.in-Some.v in
     let w = c.try_arc.new.scratch in
     let num = w.number.now in
-    let up = raising S (lawful c.args.self) round e c.arcs.scratch w v c.arcs.raised c.in-Some.ensures.tried c.arcs.invariant.sweeping in
+    let up = raising S (lawful c.args.self) round e c.arcs.scratch w c.arcs.raised v c.in-Some.ensures.tried c.arcs.invariant.sweeping in
     let z = get_or num c.from.result (pos 0) in
     let fits : SFits w32 z = search rules in
     let high = higher z (levels num v) S.nodes c.from-in-Some.result (ap (λ i. get_or num i (pos 0)) c.from.ensures ∙ up.exact) c.from-in-Some.ensures fits
