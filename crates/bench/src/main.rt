@@ -5,10 +5,12 @@
 mod clock;
 mod sums;
 
-use anyhow::{Result, anyhow};
+use anyhow::{Context, Result, ensure};
 use clock::time;
 use day::{Invoice, MOST_CENTS, MOST_FIRMS, MOST_INVOICES, Room};
-use std::alloc::{AllocError, Global};
+use setoff::Invoices;
+use std::alloc::Global;
+use sums::time_sums;
 
 const AMPLE: Room = Room {
     invoices: MOST_INVOICES,
@@ -17,7 +19,7 @@ const AMPLE: Room = Room {
 };
 
 // As many invoices as a day may have, spread over all firms.
-fn largest(heap: Global) -> std::result::Result<Vec<Invoice>, AllocError> {
+fn largest(heap: Global) -> Result<Vec<Invoice>> {
     let mut invoices = Vec::new(heap);
     let mut seed = 1u64;
     for _ in 0..MOST_INVOICES {
@@ -37,18 +39,20 @@ fn largest(heap: Global) -> std::result::Result<Vec<Invoice>, AllocError> {
 
 fn main(rt: HostRuntime) -> Result<()> {
     let heap = rt.alloc();
-    let invoices = largest(heap)?;
-    let file = day::write(heap, MOST_FIRMS, &invoices)?;
+    let written = largest(heap)?;
+    let file = day::write(heap, MOST_FIRMS, &written)?;
     let mut from = vec![in heap; 0u16; MOST_INVOICES]?;
     let mut to = vec![in heap; 0u16; MOST_INVOICES]?;
     let mut amount = vec![in heap; 0u64; MOST_INVOICES]?;
     time(&rt, "read", || {
-        day::read(&file, &mut from, &mut to, &mut amount, AMPLE).map_err(|_| anyhow!(
-            "the day was refused"
-        ))?;
+        let answer = day::read(&file, &mut from, &mut to, &mut amount, AMPLE);
+        ensure!(answer.is_ok(), "the day was refused");
         Ok(())
     })?;
+    let invoices = Invoices::new(MOST_FIRMS, &from, &to, &amount).context(
+        "the rows are not sound",
+    )?;
     let nothing = vec![in heap; 0u64; MOST_INVOICES]?;
     let heights = vec![in heap; 0u16; MOST_FIRMS as usize]?;
-    sums::time_sums(&rt, &from, &to, &amount, &nothing, &heights)
+    time_sums(&rt, invoices, &nothing, &heights)
 }

@@ -1,7 +1,10 @@
 -- The worked days hold: one test for all of them, which is computed, and what follows from it. Assumes nothing.
-use Rattle.std.proofs.Common.{◌≡◌, ℕ, zero, suc, ◌+◌, ◌-◌, ◌*◌, ◌^◌, ◌<◌, ◌≤◌, Bool, true, false, not, ◌&&◌, ◌||◌, eqb, ltb, leb, List, [], ◌∷◌, length, refl, ap, ◌∙◌, inl, inr, arith}
-use Rattle.std.specs.List.{AllByRecursion}
-use Rattle.std.proofs.lemmas.Bool.{cases_eq, eqb-true, eqb-false, ltb-true, leb-true, and_parts, or_cases, not-true}
+use Rattle.std.proofs.Common.{◌≡◌, ℕ, zero, suc, ◌+◌, ◌-◌, ◌*◌, ◌^◌, ◌<◌, ◌≤◌, Bool, true, not, ◌||◌, eqb, ltb, leb, List, [], ◌∷◌, length, get_or, refl, sym, ap, ◌∙◌, inl, inr, arith}
+use Rattle.std.specs.List.{list_all, list_any, range_with_len, AllByRecursion}
+use Rattle.std.proofs.lemmas.Bool.{eqb-true, eqb-false, ltb-true, leb-true, and_parts, or_cases, not-true}
+use Rattle.std.proofs.lemmas.List.Folds.{Any-from_list_any}
+use Rattle.std.proofs.lemmas.List.FromFn.{length-range_with_len, get_or-range_with_len}
+use Rattle.std.proofs.lemmas.List.Sums.{AllPass-from_list_all}
 use Rattle.day.specs.Bills.{Day, Sound, day_of, pick, span, reads, let_off, lets_off, SetOff, total, bound}
 use Rattle.day.specs.File.{debtors, creditors, amounts}
 use Rattle.heights.specs.Promise.{Fits, Shown, MeetsIsGreatest, Slackness}
@@ -10,32 +13,27 @@ use Rattle.heights.proofs.Days.{meets_is_greatest, slackness}
 
 -- a test passed at each of the first k places, and at some one
 every : (ℕ → Bool) → ℕ → Bool
-every test zero = true
-every test (suc k) = test k && every test k
+every test k = list_all test (range_with_len 0 k)
 
 every_at : (test : ℕ → Bool) (k : ℕ) → every test k ≡ true → (e : ℕ) → e < k → test e ≡ true
 unfolding every
-every_at test zero all e l = absurd (omega arith)
-every_at test (suc k) all e l =
-    let parts = and_parts (test k) (every test k) all in
-    elim (cases_eq e k) [ inl here ↦ ap test here ∙ parts.0 | inr before ↦ every_at test k parts.1 e (omega arith) ]
+every_at test k all e l =
+    let here : get_or (range_with_len 0 k) e 0 ≡ e = omega (arith, get_or-range_with_len 0 k e 0 l) in
+    ap test (sym here) ∙ AllPass-from_list_all test (range_with_len 0 k) all e 0 (omega (arith, length-range_with_len 0 k))
 
 some : (ℕ → Bool) → ℕ → Bool
-some test zero = false
-some test (suc k) = test k || some test k
+some test k = list_any test (range_with_len 0 k)
 
 some_at : (test : ℕ → Bool) (k : ℕ) → some test k ≡ true → (e : ℕ) × (e < k) × (test e ≡ true)
 unfolding some
-some_at test zero none = absurd (let z : ◌≡◌ {A = ℕ} 0 1 = ap (λ b. pick b 1 0) none in omega arith)
-some_at test (suc k) found = elim (or_cases (test k) (some test k) found) [
-  | inl here ↦ (k, omega arith, here)
-  | inr before ↦ let (e, l, passed) = some_at test k before in (e, omega arith, passed)
-]
+some_at test k found =
+    let (i, e, l, here, passed) = Any-from_list_any test (range_with_len 0 k) found in
+    let there : i < k = omega (arith, length-range_with_len 0 k) in
+    (e, omega (arith, here, get_or-range_with_len 0 k i e there), passed)
 
 -- every test of a list passed
 abbrev all_of : List Bool → Bool
-all_of [] = true
-all_of (b ∷ bs) = b && all_of bs
+all_of = list_all (λ b. b)
 
 abbrev EachTrue : List Bool → Type 0
 EachTrue [] = Unit {0}
@@ -150,17 +148,12 @@ holds w passed =
     all_shown w.firms (length w.invoices) (reads (debtors w.invoices)) (reads (creditors w.invoices)) (reads (amounts w.invoices)) (reads w.struck)
     (reads w.heights) w.in_all (each_true (tests_of w) passed)
 
-all_pass : List Worked → Bool
-all_pass [] = true
-all_pass (w ∷ ws) = all_of (tests_of w) && all_pass ws
-
-all_hold : (ws : List Worked) → all_pass ws ≡ true → AllByRecursion Holds ws
-unfolding all_pass
+all_hold : (ws : List Worked) → list_all (λ w. all_of (tests_of w)) ws ≡ true → AllByRecursion Holds ws
 all_hold [] passed = tt
 all_hold (w ∷ ws) passed =
-    let parts = and_parts (all_of (tests_of w)) (all_pass ws) passed in
+    let parts = and_parts (all_of (tests_of w)) (list_all (λ w. all_of (tests_of w)) ws) passed in
     (holds w parts.0, all_hold ws parts.1)
 
 pub worked_days : WorkedDays
-unfolding WorkedDays all_pass reached every some span
+unfolding WorkedDays reached every some span
 worked_days = all_hold worked refl

@@ -1,9 +1,12 @@
 -- Pigeonhole: of more than n numbers below n two are equal, and there is a first one that was met before. Assumes nothing.
-use Rattle.std.proofs.Common.{◌≡◌, ℕ, zero, suc, ◌*◌, ◌<◌, ◌≤◌, eqb, ◌≢◌, ◌⊎◌, sym, refl, ap, ◌∙◌, inl, inr, arith}
-use Rattle.std.proofs.lemmas.Bool.{cases_eq, eqb-true, eqb-false}
-use Rattle.day.specs.Bills.{pick, span}
+use Rattle.std.proofs.Common.{◌≡◌, ℕ, zero, suc, ◌<◌, ◌≤◌, true, eqb, ◌≢◌, ◌⊎◌, length, map, get_or, sym, ap, ◌∙◌, inl, inr, arith}
+use Rattle.std.specs.List.{range_with_len, list_any, IsDistinct}
+use Rattle.std.proofs.lemmas.Bool.{cases_eq, eqb-true, eqb-false, ne_eqb}
+use Rattle.std.proofs.lemmas.List.Folds.{Any-from_list_any}
+use Rattle.std.proofs.lemmas.List.FromFn.{length-map-range_with_len, get_or-map-range_with_len}
+use Rattle.std.proofs.lemmas.Map.Keys.{IsDistinct-from_apart}
+use Rattle.std.proofs.lemmas.Map.Steps.{length-le_from_distinct_below}
 use Rattle.setoff.proofs.Places.{some_below}
-use Rattle.setoff.proofs.Spans.{pick_same, pick_other, span_bound, span_none, weigh}
 
 -- the first k numbers differ from one another
 abbrev pub ApartBelow : (ℕ → ℕ) → ℕ → Type 0
@@ -33,29 +36,22 @@ apart_or_repeat u (suc k) = elim (apart_or_repeat u k) [
   ]
 ]
 
--- a number stands at most once among numbers that differ
-once : (u : ℕ → ℕ) (v k : ℕ) → ApartBelow u k → span (λ j. pick (eqb (u j) v) 1 0) k ≤ 1
-unfolding span
-once u v zero apart = omega arith
-once u v (suc k) apart = elim (cases_eq (u k) v) [
-  | inl here ↦
-      let none = span_none (λ j. pick (eqb (u j) v) 1 0) k (λ j l. pick_other (u j) v 1 0 (λ e. apart j k l (omega arith) (e ∙ sym here))) in
-      omega (arith, pick_same {A = ℕ} (u k) v 1 0 here)
-  | inr other ↦
-      let ih = once u v k (λ i j l m. apart i j l (omega arith)) in
-      omega (arith, pick_other {A = ℕ} (u k) v 1 0 other)
-]
-
-ones : (k : ℕ) → span (λ j. 1 * 1) k ≡ k
-unfolding span
-ones zero = refl
-ones (suc k) = let ih = ones k in omega arith
-
 -- at most n numbers below n differ
-pub few_apart : (u : ℕ → ℕ) (k n : ℕ) → ((j : ℕ) → j < k → u j < n) → ApartBelow u k → k ≤ n
+few_apart : (u : ℕ → ℕ) (k n : ℕ) → ((j : ℕ) → j < k → u j < n) → ApartBelow u k → k ≤ n
 few_apart u k n there apart =
-    let each = span_bound (λ v. 1 * span (λ j. pick (eqb (u j) v) 1 0) k) 1 n (λ v l. omega (arith, once u v k apart)) in
-    omega (arith, ones k, weigh (λ j. 1) (λ v. 1) u k n there)
+    let xs = map u (range_with_len 0 k) in
+    let long : length xs ≡ k = length-map-range_with_len u 0 k in
+    let at : (i d : ℕ) → i < k → get_or xs i d ≡ u i = λ i d l. get_or-map-range_with_len u 0 k i i d l (omega arith) in
+    let distinct : IsDistinct eqb xs =
+    IsDistinct-from_apart eqb xs
+    (λ i j d l m.
+    let last : j < k = omega arith in
+    ne_eqb (get_or xs i d) (get_or xs j d) (λ e. apart i j l last (sym (at i d (omega arith)) ∙ e ∙ at j d last))) in
+    let below : (q : ℕ) → list_any (eqb q) xs ≡ true → q < n =
+    λ q any.
+    let (i, x, l, is, same) = Any-from_list_any (eqb q) xs any in
+    omega (arith, eqb-true q x same, is, at i x (omega arith), there i (omega arith)) in
+    omega (arith, long, length-le_from_distinct_below xs n distinct below)
 
 pub repeats : (u : ℕ → ℕ) (k n : ℕ) → ((j : ℕ) → j < k → u j < n) → n < k → Repeat u k
 repeats u k n there many =

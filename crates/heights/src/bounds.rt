@@ -15,24 +15,22 @@ fn times(from: u16, to: u16) -> u64
     (u64::from(from) + 1).saturating_sub(u64::from(to))
 }
 
-impl Heights<'_> {
+impl Heights<'_, '_> {
     // What an invoice counts for.
-    fn counted(self, invoices: Invoices, e: usize) -> u64
-        requires { (self.firms ≡ invoices.firms) × (e < length invoices.from.now) }
-        ensures { result ≡ counted (day_in invoices.entry) (reads self.entry.of_firm.now) e }
+    fn counted(self, e: usize) -> u64
+        requires { e < length self.invoices.from.now }
+        ensures { result ≡ counted (day_in self.entry.invoices) (reads self.entry.of_firm.now) e }
     {
+        let invoices = self.invoices;
         invoices.amount[e] * times(self.of(invoices.from[e]), self.of(invoices.to[e]))
     }
 
-    // Adds up a day's invoices, of which there are few enough to stay below 2^63.
-    // It goes by the invoices' numbers, since a zip of the three rows takes a fifth longer.
-    fn add_up(self, invoices: Invoices) -> u64
-        requires { self.firms ≡ invoices.firms }
-        ensures { Bounds (day_in invoices.entry) (reads self.entry.of_firm.now) result }
+    // Adds up the invoices, of which there are few enough to stay below 2^63.
+    // It goes by their numbers, since a zip of the three rows takes a fifth longer.
+    fn add_up(self) -> u64
+        ensures { Bounds (day_in self.entry.invoices) (reads self.entry.of_firm.now) result }
     {
-        (0..invoices.from.len())
-            .map(|e| self.counted(invoices, e))
-            .sum()
+        (0..self.invoices.from.len()).map(|e| self.counted(e)).sum()
     }
 }
 
@@ -40,6 +38,6 @@ impl Heights<'_> {
 pub fn bound(invoices: Invoices, heights: &[u16]) -> Result<u64, Misfit>
     ensures { Answers invoices.entry.firms heights.now (Bounds (day_in invoices.entry) (reads heights.now)) result }
 {
-    let heights = Heights::new(invoices.firms, heights)?;
-    Ok(heights.add_up(invoices))
+    let heights = Heights::new(invoices, heights)?;
+    Ok(heights.add_up())
 }

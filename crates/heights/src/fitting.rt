@@ -8,26 +8,25 @@ ghost use Rattle.heights.specs.Told.{FitsAt, Judges};
 use crate::low::Heights;
 use setoff::{Misfit, Struck};
 
-impl Heights<'_> {
+impl Heights<'_, '_> {
     // Whether an invoice leads up by one at least where something is left of it, and by one at most where something is struck out.
-    fn fits_at(self, struck: Struck, e: usize) -> bool
-        requires { (self.firms ≡ struck.invoices.firms) × (e < length struck.invoices.from.now) }
-        ensures { Decides result (FitsAt (day_in struck.entry.invoices) (cents_in struck.entry) (reads self.entry.of_firm.now) e) }
+    fn fits_at(self, cents: &[u64], e: usize) -> bool
+        requires { (length cents.now ≡ length self.invoices.from.now) × (e < length self.invoices.from.now) }
+        ensures { Decides result (FitsAt (day_in self.entry.invoices) (reads cents.now) (reads self.entry.of_firm.now) e) }
     {
-        let invoices = struck.invoices;
-        let amount = invoices.amount[e];
-        let cents = struck.cents[e];
+        let invoices = self.invoices;
         let from = self.of(invoices.from[e]);
         let to = self.of(invoices.to[e]);
-        (cents >= amount || from < to) && (cents == 0 || u32::from(to) <= u32::from(from) + 1)
+        (cents[e] >= invoices.amount[e] || from < to)
+            && (cents[e] == 0 || u32::from(to) <= u32::from(from) + 1)
     }
 
     // Whether each invoice is such a one. It goes by their numbers, since a zip of the four rows takes more than twice as long.
-    fn fits_each(self, struck: Struck) -> bool
-        requires { self.firms ≡ struck.invoices.firms }
-        ensures { Judges (day_in struck.entry.invoices) (cents_in struck.entry) (reads self.entry.of_firm.now) result }
+    fn fits_each(self, cents: &[u64]) -> bool
+        requires { length cents.now ≡ length self.invoices.from.now }
+        ensures { Judges (day_in self.entry.invoices) (reads cents.now) (reads self.entry.of_firm.now) result }
     {
-        (0..struck.cents.len()).all(|e| self.fits_at(struck, e))
+        (0..cents.len()).all(|e| self.fits_at(cents, e))
     }
 }
 
@@ -35,6 +34,6 @@ impl Heights<'_> {
 pub fn fit(struck: Struck, heights: &[u16]) -> Result<bool, Misfit>
     ensures { Answers struck.entry.invoices.firms heights.now (Judges (day_in struck.entry.invoices) (cents_in struck.entry) (reads heights.now)) result }
 {
-    let heights = Heights::new(struck.invoices.firms, heights)?;
-    Ok(heights.fits_each(struck))
+    let heights = Heights::new(struck.invoices, heights)?;
+    Ok(heights.fits_each(struck.cents))
 }

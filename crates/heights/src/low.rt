@@ -1,37 +1,40 @@
-// Heights of the firms in a lent row, low by their type.
+// Heights of a day's firms in a lent row, low by their type.
 ghost use Rattle.std.specs.Prelude.{◌≡◌, ◌<◌};
 ghost use Rattle.std.specs.Result.{MatchResult};
 ghost use Rattle.day.specs.Bills.{reads};
 ghost use Rattle.setoff.specs.Strike.{Misfits};
 ghost use Rattle.heights.specs.Rows.{Low};
 
-use setoff::Misfit;
+use setoff::{Invoices, Misfit};
 
-// A height for each firm, none of them above the number of firms.
+// A height for each firm of the day, none of them above the number of firms.
 #[derive(Clone, Copy)]
-pub(crate) struct Heights<'a> {
-    firms: u16,
-    of_firm: &'a [u16],
-    ghost low: { Low firms of_firm.now },
+pub(crate) struct Heights<'d, 'h> {
+    pub(crate) invoices: Invoices<'d>,
+    of_firm: &'h [u16],
+    ghost low: { Low invoices.firms of_firm.now },
 }
 
-impl<'a> Heights<'a> {
+impl<'d, 'h> Heights<'d, 'h> {
     // Whether a row is one, or why it is turned away.
-    pub(crate) fn new(firms: u16, of_firm: &'a [u16]) -> Result<Self, Misfit>
-        ensures { MatchResult result (λ h. (h.firms ≡ firms) × (h.of_firm.now ≡ of_firm.now)) (λ m. Misfits firms (λ _. firms) of_firm.now m) }
+    pub(crate) fn new(invoices: Invoices<'d>, of_firm: &'h [u16]) -> Result<Self, Misfit>
+        ensures { MatchResult result
+            (λ h. (h.invoices ≡ invoices.entry) × (h.of_firm.now ≡ of_firm.now))
+            (λ m. Misfits invoices.entry.firms (λ _. invoices.entry.firms) of_firm.now m) }
     {
+        let firms = invoices.firms;
         if of_firm.len() != firms as usize {
             return Err(Misfit::Length(of_firm.len()));
         }
         match of_firm.iter().position(|height| *height > firms) {
             Some(v) => Err(Misfit::Above(v)),
-            None => Ok(Heights { firms, of_firm }),
+            None => Ok(Heights { invoices, of_firm }),
         }
     }
 
     // The height of a firm.
     pub(crate) fn of(self, firm: u16) -> u16
-        requires { firm < self.firms }
+        requires { firm < self.invoices.firms }
         ensures { result ≡ reads self.entry.of_firm.now firm }
     {
         self.of_firm[firm as usize]

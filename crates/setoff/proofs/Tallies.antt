@@ -1,11 +1,11 @@
 -- A row with a place for each firm, in which the firms' two sums are added up invoice by invoice. Assumes nothing.
-use Rattle.std.proofs.Common.{◌≡◌, ℕ, ◌+◌, ◌<◌, ◌≢◌, List, length, set, slice_index_or, sym, refl, ap, ◌∙◌, inl, inr, arith}
-use Rattle.std.proofs.lemmas.List.{get_or-set_same, get_or-set_other, length-set}
+use Rattle.std.proofs.Common.{◌≡◌, ℕ, ◌+◌, ◌<◌, ◌≢◌, Fits, w64, List, length, replicate, set, slice_index_or, sym, refl, ap, ◌∙◌, inl, inr, arith}
+use Rattle.std.proofs.lemmas.List.{get_or-set_same, get_or-set_other, length-set, get_or-replicate}
 use Rattle.std.proofs.lemmas.Bool.{cases_eq}
 use Rattle.day.specs.Bills.{reads}
 use Rattle.setoff.specs.declared.evenness.Sums.{Sums}
 use Rattle.setoff.specs.declared.struck.Struck.{Struck}
-use Rattle.setoff.proofs.Portions.{share, share_same, share_other}
+use Rattle.setoff.proofs.Portions.{share, share_none, share_same, share_other, more_fits}
 
 -- a row with a place for each firm of the largest day shows f: at each place, f of the place
 pub record Shows (f : ℕ → Sums) (row : List Sums) : Type 0 where
@@ -29,6 +29,20 @@ shows_set f g row p x shows there here rest =
         | inl same ↦ ap (λ u. slice_index_or (set row p x) u other) same ∙ get_or-set_same row p x other (omega arith) ∙ here ∙ ap g (sym same)
         | inr away ↦ get_or-set_other row p v x other away ∙ shows.at v other h ∙ rest v away
       ];
+    }
+
+-- before the first invoice all sums are 0
+abbrev pub no_sums : Sums
+no_sums = record { let_off = 0; lets_off = 0 }
+
+pub shows_none : (s : Struck) → Shows (sums_of s 0 0) (replicate 512 no_sums)
+shows_none s =
+    record {
+      places = refl;
+      at = λ v other h.
+          let from = share_none (reads s.invoices.from.now) (reads s.cents.now) v in
+          let to = share_none (reads s.invoices.to.now) (reads s.cents.now) v in
+          get_or-replicate 512 v no_sums other h ∙ cc;
     }
 
 -- both firms of an invoice have a place
@@ -62,3 +76,16 @@ module _ (s : Struck) (row : List Sums) (k : ℕ) (other : Sums) (h : k < length
       shows_set (sums_of s (k + 1) k) (sums_of s (k + 1) (k + 1)) row (to k) _ shows there
       (cc (shows.at (to k) other there, more))
       (λ v away. let still = share_other to (reads s.cents.now) v k (λ same. away (sym same)) in cc)
+
+  -- within 64 bits
+  pub owing_fits : Shows (sums_of s k k) row → Fits w64 ((slice_index_or row (reads s.invoices.from.now k) other).let_off + reads s.cents.now k)
+  owing_fits shows =
+      let from = reads s.invoices.from.now in
+      let is = ap (λ (x : Sums). x.let_off) (shows.at (from k) other (from_placed s k h)) in
+      omega (arith, more_fits s from (from k) k h refl)
+
+  pub owed_fits : Shows (sums_of s (k + 1) k) row → Fits w64 ((slice_index_or row (reads s.invoices.to.now k) other).lets_off + reads s.cents.now k)
+  owed_fits shows =
+      let to = reads s.invoices.to.now in
+      let is = ap (λ (x : Sums). x.lets_off) (shows.at (to k) other (to_placed s k h)) in
+      omega (arith, more_fits s to (to k) k h refl)

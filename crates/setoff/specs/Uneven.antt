@@ -1,13 +1,7 @@
--- What each firm is let off and lets off, and the first firm that a row of cents leaves uneven. Assumes nothing: these are definitions.
-use Rattle.std.specs.Prelude.{◌≡◌, ℕ, ◌<◌, ◌≢◌, List, Some, None, Option, slice_index_or}
+-- The first firm that a row of cents leaves uneven. Assumes nothing: these are definitions.
+use Rattle.std.specs.Prelude.{◌≡◌, ℕ, ◌<◌, ◌≢◌, Some, None, Option}
 use Rattle.day.specs.Bills.{Day, let_off, lets_off, SetOff}
-use Rattle.setoff.specs.declared.evenness.Sums.{Sums}
 use Rattle.setoff.specs.Promise.{Stays}
-
--- at each place, the two sums of its firm
-abbrev pub Tallied : Day → (ℕ → ℕ) → List Sums → Type 0
-Tallied d s sums =
-    (v : ℕ) (other : Sums) → v < d.firms → slice_index_or sums v other ≡ record { let_off = let_off d s v; lets_off = lets_off d s v }
 
 -- the cents are a set-off, which keeps the position of each firm
 pub record Balanced (d : Day) (s : ℕ → ℕ) : Type 0 where

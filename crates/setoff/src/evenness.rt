@@ -1,7 +1,7 @@
 // Whether what is struck out leaves every firm even: it is let off as much as it lets others off.
 ghost use Rattle.std.specs.Prelude.{◌≡◌, ◌↔◌, IsTrue};
 ghost use Rattle.setoff.specs.Rows.{day_in, cents_in};
-ghost use Rattle.setoff.specs.Uneven.{Tallied, Evenness};
+ghost use Rattle.setoff.specs.Uneven.{Evenness};
 
 use crate::struck::Struck;
 use day::MOST_FIRMS;
@@ -25,9 +25,9 @@ impl Sums {
 }
 
 impl Struck<'_> {
-    // Adds up the sums of each firm.
-    fn tally(self) -> [Sums; PLACES]
-        ensures { Tallied (day_in self.entry.invoices) (cents_in self.entry) result }
+    // The first firm that is not even, if there is one; where there is none, the cents are a set-off.
+    pub fn first_uneven(self) -> Option<u16>
+        ensures { Evenness (day_in self.entry.invoices) (cents_in self.entry) result }
     {
         let mut sums = [Sums {
             let_off: 0,
@@ -37,14 +37,6 @@ impl Struck<'_> {
             sums[self.invoices.from[e] as usize].let_off += cents;
             sums[self.invoices.to[e] as usize].lets_off += cents;
         }
-        sums
-    }
-
-    // The first firm that is not even, if there is one; where there is none, the cents are a set-off.
-    pub fn first_uneven(self) -> Option<u16>
-        ensures { Evenness (day_in self.entry.invoices) (cents_in self.entry) result }
-    {
-        let sums = self.tally();
         (0..self.invoices.firms).find(|&v| !sums[v as usize].is_even())
     }
 }

@@ -26,11 +26,11 @@ fn is_sound(firms: u16, invoice: Invoice) -> bool
 pub fn are_sound(firms: u16, from: &[u16], to: &[u16], amount: &[u64]) -> bool
     ensures { IsTrue result ↔ (SoundRows firms from.now to.now amount.now) }
 {
-    if to.len() != from.len() || amount.len() != from.len() || !fits_limits(firms, from.len()) {
-        return false;
-    }
-    from.iter().zip(to).zip(amount).all(|((&from, &to), &amount)| is_sound(
-        firms,
-        Invoice { from, to, amount },
-    ))
+    to.len() == from.len()
+        && amount.len() == from.len()
+        && fits_limits(firms, from.len())
+        && from.iter().zip(to).zip(amount).all(|((&from, &to), &amount)| is_sound(
+            firms,
+            Invoice { from, to, amount },
+        ))
 }
