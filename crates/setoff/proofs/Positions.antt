@@ -28,16 +28,19 @@ position_kept d s v set there =
     let even = set.even v there in
     omega arith
 
--- where no firm is uneven, the cents are a set-off, and so each position is kept
+-- firm v, if it is there, is even, or is not
+abbrev pub Even : Struck → ℕ → Type 0
+Even s v = v < s.invoices.firms → let_off (day_in s.invoices) (cents_in s) v ≡ lets_off (day_in s.invoices) (cents_in s) v
+
+abbrev pub Uneven : Struck → ℕ → Type 0
+Uneven s v = v < s.invoices.firms → let_off (day_in s.invoices) (cents_in s) v ≢ lets_off (day_in s.invoices) (cents_in s) v
+
+-- where a search through the firms finds none that is uneven, the cents are a set-off, and so each position is kept
 pub first_evenness : (s : Struck) (r : Option ℕ) →
-    let d = day_in s.invoices in
-    let Even = λ (v : ℕ). v < d.firms → let_off d (cents_in s) v ≡ lets_off d (cents_in s) v in
-    MatchOption r ((v : ℕ) → 0 ≤ v → v < d.firms → Even v)
-    (λ v. (0 ≤ v) × (v < d.firms) × (v < d.firms → let_off d (cents_in s) v ≢ lets_off d (cents_in s) v) × ((u : ℕ) → 0 ≤ u → u < v → Even u)) →
-    Evenness d (cents_in s) r
+    MatchOption r ((v : ℕ) → 0 ≤ v → v < s.invoices.firms → Even s v) (λ v. (0 ≤ v) × (v < s.invoices.firms) × Uneven s v × ((u : ℕ) → 0 ≤ u → u < v → Even s u)) →
+    Evenness (day_in s.invoices) (cents_in s) r
 unfolding PositionKept
 first_evenness s None even =
-    let d = day_in s.invoices in
-    let set : SetOff d (cents_in s) = record { within = s.within; even = λ v there. even v (omega arith) there there } in
-    record { set_off = set; kept = λ v there. position_kept d (cents_in s) v set there }
+    let set : SetOff (day_in s.invoices) (cents_in s) = record { within = s.within; even = λ v there. even v (omega arith) there there } in
+    record { set_off = set; kept = λ v there. position_kept (day_in s.invoices) (cents_in s) v set there }
 first_evenness s (Some v) found = (found.1, found.2 found.1, λ u l. found.3 u (omega arith) l (omega (arith, found.1)))

@@ -1,6 +1,7 @@
 -- Invoices of two sorts without a common firm clear apart: one sort of any set-off can stand in a greatest one. Assumes nothing.
-use Rattle.std.proofs.Common.{◌≡◌, ℕ, ◌+◌, ◌<◌, ◌≤◌, Bool, true, false, not, ◌&&◌, ◌||◌, eqb, ◌⊎◌, sym, refl, ap, ◌∙◌, inl, inr, arith}
-use Rattle.std.proofs.lemmas.Bool.{cases_Bool, cases_eq, eqb-true, eqb-false, and_parts, and_cases, or_cases, or_parts, not-true, not-false}
+use borrow.Author.Tests.{tests}
+use Rattle.std.proofs.Common.{rules, ◌≡◌, ℕ, ◌+◌, ◌<◌, ◌≤◌, Bool, true, false, not, ◌&&◌, ◌||◌, eqb, ◌⊎◌, sym, refl, ap, ◌∙◌, inl, inr, arith}
+use Rattle.std.proofs.lemmas.Bool.{cases_Bool, cases_eq, and_parts, and_cases, not-true, not-false}
 use Rattle.day.specs.Bills.{Day, pick, span, let_off, lets_off, SetOff, Greatest}
 use Rattle.setoff.specs.Promise.{Strangers, Apart}
 use Rattle.setoff.proofs.Places.{some_below}
@@ -25,14 +26,10 @@ strangers_apart d e f v apart (inr p) (inl q) = apart.2 (p ∙ sym q)
 strangers_apart d e f v apart (inr p) (inr q) = apart.3 (p ∙ sym q)
 
 at_by_test : (d : Day) (v e : ℕ) → (eqb (d.from e) v || eqb (d.to e) v) ≡ true → AtFirm d v e
-at_by_test d v e test = elim (or_cases (eqb (d.from e) v) (eqb (d.to e) v) test) [
-  | inl p ↦ inl (eqb-true (d.from e) v p)
-  | inr p ↦ inr (eqb-true (d.to e) v p)
-]
+at_by_test d v e test = search (rules, tests)
 
 not_by_test : (d : Day) (v e : ℕ) → (eqb (d.from e) v || eqb (d.to e) v) ≡ false → AtFirm d v e → ⊥
-not_by_test d v e test (inl p) = eqb-false (d.from e) v (or_parts (eqb (d.from e) v) (eqb (d.to e) v) test).0 p
-not_by_test d v e test (inr p) = eqb-false (d.to e) v (or_parts (eqb (d.from e) v) (eqb (d.to e) v) test).1 p
+not_by_test d v e test at = search (rules, tests)
 
 module _ (d : Day) (sort : ℕ → Bool) (split : Split d sort) (q s : ℕ → ℕ) where
   -- all invoices at a firm are of one sort, so that r has of them what q has, or what s has

@@ -15,13 +15,10 @@ pub span-zero : (f : ℕ → ℕ) → span f 0 ≡ 0
 unfolding span
 span-zero f = refl
 
-pub span-suc : (f : ℕ → ℕ) (k : ℕ) → span f (suc k) ≡ f k + span f k
-unfolding span
-span-suc f k = refl
-
 -- a loop's step
 pub span_more : (f : ℕ → ℕ) (k : ℕ) → span f (k + 1) ≡ f k + span f k
-span_more f k = let e : k + 1 ≡ suc k = omega arith in rw e (span-suc f k)
+unfolding span
+span_more f k = let e : k + 1 ≡ suc k = omega arith in rw e
 
 pub span-le : (f g : ℕ → ℕ) (k : ℕ) → ((e : ℕ) → e < k → f e ≤ g e) → span f k ≤ span g k
 unfolding span

@@ -29,8 +29,7 @@ pub fn are_sound(firms: u16, from: &[u16], to: &[u16], amount: &[u64]) -> bool
     to.len() == from.len()
         && amount.len() == from.len()
         && fits_limits(firms, from.len())
-        && from.iter().zip(to).zip(amount).all(|((&from, &to), &amount)| is_sound(
-            firms,
-            Invoice { from, to, amount },
-        ))
+        && from.iter().zip(to).zip(amount).all(|((&from, &to), &amount)| {
+            is_sound(firms, Invoice { from, to, amount })
+        })
 }

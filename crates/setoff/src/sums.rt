@@ -13,7 +13,7 @@ impl Struck<'_> {
         ensures { result ≡ span (λ e. pick (reads row.now e == firm) (cents_in self.entry e) 0) (length row.now) }
     {
         let mut sum = 0;
-        // a zip of the two rows, in a loop or a chain, takes from 1.6 to 3 times as long
+        // a zip of the two rows takes 1.6 times as long in a loop, and twice as long or more in a chain
         for (e, at) in row.iter().enumerate() {
             if *at == firm {
                 sum += self.cents[e];

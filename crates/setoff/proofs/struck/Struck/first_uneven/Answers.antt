@@ -3,8 +3,7 @@ use Rattle.std.proofs.Common.{rules, ◌≡◌, ℕ, ◌≢◌, ◌<◌, length,
 use Rattle.std.proofs.lemmas.Iterator.{first_from_Range}
 use borrow.Author.Tests.{tests}
 use Rattle.day.specs.Bills.{let_off, lets_off}
-use Rattle.setoff.specs.Rows.{day_in, cents_in}
-use Rattle.setoff.proofs.Positions.{first_evenness}
+use Rattle.setoff.proofs.Positions.{Even, Uneven, first_evenness}
 use Rattle.setoff.proofs.Tallies.{sums_of, no_sums, shows_none, owing_more, owed_more, owing_fits, owed_fits}
 use Rattle.setoff.proofs.struck.Struck.first_uneven.Goals as goal
 
@@ -24,20 +23,13 @@ pub returns : goal.returns
 unfolding let_off lets_off
 returns c =
     let s = c.args.self in
-    let d = day_in s.invoices in
     let all : c.loop-e.e ≡ length s.invoices.from.now = omega (arith, s.cents_each) in
     let few = s.invoices.sound.sound.few_firms in
-    let at = λ (v : ℕ) (h : v < d.firms). c.loop-e.invariant.at v no_sums (omega arith) ∙ ap (λ k. sums_of s k k v) all in
+    let sums = λ (v : ℕ). slice_index_or c.loop-e.sums v no_sums in
+    let at = λ (v : ℕ) (h : v < s.invoices.firms). c.loop-e.invariant.at v no_sums (omega arith) ∙ ap (λ k. sums_of s k k v) all in
+    let apart = λ (v : ℕ) (h : v < s.invoices.firms) (differ : (sums v).let_off ≢ (sums v).lets_off). rw (at v h) at differ in
+    let alike = λ (v : ℕ) (h : v < s.invoices.firms) (same : (sums v).let_off ≡ (sums v).lets_off). rw (at v h) at same in
     first_evenness s c.find.result
-    (first_from_Range _ _ _ c.find.result (λ v. v < d.firms → let_off d (cents_in s) v ≢ lets_off d (cents_in s) v) (λ v. v < d.firms → let_off d (cents_in s) v ≡ lets_off d (cents_in s) v) c.find.ensures.ran
-    (λ x q k h.
-    let sums = slice_index_or c.loop-e.sums x no_sums in
-    let apart : sums.let_off ≢ sums.lets_off = search (rules, tests) in
-    rw (at x h) at apart)
-    (λ x q k. (
-      search rules,
-      λ h.
-          let sums = slice_index_or c.loop-e.sums x no_sums in
-          let alike : sums.let_off ≡ sums.lets_off = search (rules, tests) in
-          rw (at x h) at alike,
-    )))
+    (first_from_Range _ _ _ c.find.result (Uneven s) (Even s) c.find.ensures.ran
+    (λ v q k h. apart v h (search (rules, tests)))
+    (λ v q k. (search rules, λ h. alike v h (search (rules, tests)))))
