@@ -44,13 +44,13 @@ impl Residual<'_> {
             Way::Along(e) => Step {
                 tail: network.tail[e],
                 head: network.head[e],
-                gain: if e < network.counted { 1 } else { 0 },
+                gain: i32::from(e < network.counted),
                 room: network.capacity[e].saturating_sub(self.flow[e]),
             },
             Way::Back(e) => Step {
                 tail: network.head[e],
                 head: network.tail[e],
-                gain: if e < network.counted { -1 } else { 0 },
+                gain: -i32::from(e < network.counted),
                 room: self.flow[e],
             },
         }
