@@ -1,6 +1,6 @@
 // What a search is lent to work in.
 
-// Rows of plain numbers, each with a place for each node.
+// Rows of plain numbers, since lent memory is such, each with a place for each node.
 #[derive(Drop)]
 pub struct Scratch<'a> {
     // the node's number
