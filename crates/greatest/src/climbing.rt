@@ -5,64 +5,41 @@ ghost use Rattle.day.specs.Bills.{reads};
 ghost use Rattle.heights.specs.Network.{Circulation};
 ghost use Rattle.rings.specs.Improving.{RowsFit};
 ghost use Rattle.rings.specs.Rows.{network_in};
+ghost use Rattle.rings.specs.Scratch.{SameRows};
 ghost use Rattle.greatest.specs.Climbing.{Climbed, Largest};
 
-use rings::{Network, improve};
+use rings::{Network, Scratch, improve};
 
 // Strikes out rings whose steps all have room for `least` cents, until there is none. Each leaves fewer cents that can still
 // be struck out.
-fn climb(
-    network: Network,
-    flow: &mut [u64],
-    least: u64,
-    number: &mut [i32],
-    last: &mut [u16],
-    ring: &mut [u64],
-)
+fn climb(network: Network, flow: &mut [u64], least: u64, scratch: &mut Scratch)
     requires some { 1 ≤ least }
-    requires rows { RowsFit (network_in network) flow.old number.old last.old ring.old }
+    requires rows { RowsFit (network_in network) flow.old scratch.old }
     requires even { Circulation (network_in network) (reads flow.old) }
-    ensures { Climbed (network_in network.entry) least flow.old flow.new number.new last.new }
+    ensures climbed { Climbed (network_in network.entry) least flow.old flow.new scratch.new }
+    ensures same { SameRows scratch.old scratch.new }
 {
-    'rings: loop {
-        let Ok(improved) = improve(network, flow, least, number, last, ring) else {
-            return;
-        };
-        let Some(_) = improved else {
-            return;
-        };
-    }
+    'rings: while let Ok(Some(_)) = improve(network, flow, least, scratch) {}
 }
 
 // The largest number of a row, or 0 where there is none.
 fn largest(row: &[u64]) -> u64
     ensures { Largest row.now result }
 {
-    let mut top = 0;
-    for e in 0..row.len() {
-        if top < row[e] {
-            top = row[e];
-        }
-    }
-    top
+    row.iter().copied().max().unwrap_or(0)
 }
 
 // Strikes out rings until none is left that gains. Scales begin where one arc at least has room, and halve.
-pub(crate) fn climb_in_scales(
-    network: Network,
-    flow: &mut [u64],
-    number: &mut [i32],
-    last: &mut [u16],
-    ring: &mut [u64],
-)
-    requires rows { RowsFit (network_in network) flow.old number.old last.old ring.old }
+pub(crate) fn climb_in_scales(network: Network, flow: &mut [u64], scratch: &mut Scratch)
+    requires rows { RowsFit (network_in network) flow.old scratch.old }
     requires even { Circulation (network_in network) (reads flow.old) }
-    ensures { Climbed (network_in network.entry) 1 flow.old flow.new number.new last.new }
+    ensures climbed { Climbed (network_in network.entry) 1 flow.old flow.new scratch.new }
+    ensures same { SameRows scratch.old scratch.new }
 {
     let mut least = largest(network.capacity);
     'scales: while least > 1 {
-        climb(network, flow, least, number, last, ring);
+        climb(network, flow, least, scratch);
         least /= 2;
     }
-    climb(network, flow, 1, number, last, ring);
+    climb(network, flow, 1, scratch);
 }

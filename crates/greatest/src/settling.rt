@@ -1,12 +1,13 @@
 // From a set-off in rows that are as long as the day is to a greatest one, with the heights that show it.
 ghost use Rattle.std.specs.Prelude.{◌≡◌, ℕ, ◌<◌, ◌≤◌, length};
-ghost use Rattle.day.specs.Bills.{reads, SetOff, total};
+ghost use Rattle.day.specs.Bills.{reads, SetOff};
 ghost use Rattle.rings.specs.Numbers.{levels, Below};
+ghost use Rattle.rings.specs.Scratch.{SameRows};
 ghost use Rattle.setoff.specs.Rows.{day_in};
 ghost use Rattle.greatest.specs.Settling.{Settles, RowsEach, Wiped};
 
 use crate::climbing::climb_in_scales;
-use rings::Network;
+use rings::{Network, Scratch};
 use setoff::{Invoices, Struck};
 
 // Where no ring is left the numbers of the search, signed until then, are the heights.
@@ -15,18 +16,9 @@ fn write_heights(number: &[i32], height: &mut [u16])
     requires low { Below 4096 (length number.now) number.now }
     ensures { reads height.new ≡ levels number.now }
 {
-    for v in 0..number.len() {
-        height[v] = number[v] as u16;
+    for (v, number) in number.iter().enumerate() {
+        height[v] = *number as u16;
     }
-}
-
-// What is struck out in all.
-fn total_of<'a>(invoices: Invoices<'a>, cents: &'a [u64]) -> u64
-    requires set { SetOff (day_in invoices) (reads cents.now) }
-    requires each { length cents.now ≡ length invoices.from.now }
-    ensures { result ≡ total (day_in invoices.entry) (reads cents.now) }
-{
-    setoff::total(Struck { invoices, cents })
 }
 
 // Goes on from a set-off to a greatest one, and returns its total. What only served the search is wiped.
@@ -34,14 +26,13 @@ pub(crate) fn settle(
     invoices: Invoices,
     struck: &mut [u64],
     height: &mut [u16],
-    number: &mut [i32],
-    last: &mut [u16],
-    ring: &mut [u64],
+    scratch: &mut Scratch,
 ) -> u64
-    requires rows { RowsEach (day_in invoices) struck.old height.old number.old last.old ring.old }
+    requires rows { RowsEach (day_in invoices) struck.old height.old scratch.old }
     requires set { SetOff (day_in invoices) (reads struck.old) }
     ensures settled { Settles (day_in invoices.entry) struck.old struck.new height.new result }
-    ensures wiped { Wiped invoices.entry.firms number.new last.new ring.new }
+    ensures wiped { Wiped invoices.entry.firms scratch.new }
+    ensures same { SameRows scratch.old scratch.new }
 {
     let network = Network {
         nodes: invoices.firms,
@@ -50,10 +41,14 @@ pub(crate) fn settle(
         capacity: invoices.amount,
         counted: invoices.from.len(),
     };
-    climb_in_scales(network, struck, number, last, ring);
-    write_heights(number, height);
-    number.fill(0);
-    last.fill(0);
-    ring.fill(0);
-    total_of(invoices, struck)
+    climb_in_scales(network, struck, scratch);
+    write_heights(scratch.number, height);
+    scratch.number.fill(0);
+    scratch.last.fill(0);
+    scratch.ring.fill(0);
+    let struck = Struck {
+        invoices,
+        cents: struck,
+    };
+    struck.total()
 }

@@ -1,10 +1,11 @@
 -- Writing down the last steps from a node until they come back to it. Assumes nothing.
-use Rattle.std.proofs.Common.{◌≡◌, ℕ, suc, ◌+◌, ◌-◌, ◌<◌, ◌≤◌, ◌≢◌, List, length, set, sym, refl, ap, ◌∙◌, inl, inr, arith}
-use Rattle.std.proofs.lemmas.List.{get_or-set_same, get_or-set_other}
+use Rattle.std.proofs.Common.{◌≡◌, ℕ, suc, ◌+◌, ◌-◌, ◌<◌, ◌≤◌, ◌≢◌, List, length, set, sym, ap, ◌∙◌, inl, inr, arith}
+use Rattle.std.proofs.lemmas.Grind.{get_or-set_at}
+use Rattle.std.proofs.lemmas.List.{get_or-set_other}
 use Rattle.std.proofs.lemmas.Bool.{cases_eq, cases_lt}
 use Rattle.day.specs.Bills.{reads}
 use Rattle.heights.specs.Search.{back}
-use Rattle.rings.specs.Chains.{Returns, Closed}
+use Rattle.rings.specs.Chains.{Returns}
 
 -- m steps are written down, and have not come back yet
 pub record Collecting (tail last : ℕ → ℕ) (start m at : ℕ) (ring : List ℕ) : Type 0 where
@@ -13,32 +14,26 @@ pub record Collecting (tail last : ℕ → ℕ) (start m at : ℕ) (ring : List 
   pub first : (j : ℕ) → 0 < j → j ≤ m → back tail last start j ≢ start
 
 module _ (tail last : ℕ → ℕ) (start : ℕ) where
-  pub collects_none : (ring : List ℕ) → Collecting tail last start 0 start ring
-  collects_none ring = record { here = refl; steps = λ j l. absurd (omega arith); first = λ j some l. absurd (omega arith) }
-
   module _ (m at : ℕ) (ring : List ℕ) (so_far : Collecting tail last start m at ring) where
     module _ (n : ℕ) (r : Returns n tail last start) where
       early : m < r.period
       early = elim (cases_lt m r.period) [ inl before ↦ before | inr past ↦ absurd (so_far.first r.period r.some past r.closes) ]
 
-      pub room : m < n
+      room : m < n
       room = omega (arith, early, r.few)
 
-      pub on : last at ≢ 0
-      on e = r.long m early (ap last (sym so_far.here) ∙ e)
-
-    module _ (n : ℕ) (r : Returns n tail last start) (each : length ring ≡ n) (step next : ℕ) (is : step ≡ last at - 1) (leads : next ≡ tail (last at - 1)) where
+    module _ (n : ℕ) (r : Returns n tail last start) (each : length ring ≡ n) (step next : ℕ) (is : last at ≡ suc step) (leads : next ≡ tail step) where
       written : (j : ℕ) → j < m + 1 → last (back tail last start j) ≡ suc (reads (set ring m step) j)
       written j l = elim (cases_eq j m) [
-        | inl same ↦
-            ap (λ i. last (back tail last start i)) same ∙ ap last (sym so_far.here)
-            ∙ (let some = on n r in let e : last at ≡ suc step = omega arith in e)
-            ∙ ap suc (sym (ap (reads (set ring m step)) same ∙ get_or-set_same ring m step 0 (omega (arith, room n r))))
+        | inl same ↦ ap (λ i. last (back tail last start i)) same ∙ ap last (sym so_far.here) ∙ is ∙ ap suc (sym (get_or-set_at ring m j step 0 same (omega (arith, room n r))))
         | inr other ↦ so_far.steps j (omega arith) ∙ ap suc (sym (get_or-set_other ring m j step 0 other))
       ]
 
       further : next ≡ back tail last start (m + 1)
-      further = let e : suc m ≡ m + 1 = omega arith in leads ∙ ap (λ v. tail (last v - 1)) so_far.here ∙ ap (back tail last start) e
+      further =
+          let e : suc m ≡ m + 1 = omega arith in
+          let taken : step ≡ last at - 1 = omega arith in
+          leads ∙ ap tail taken ∙ ap (λ v. tail (last v - 1)) so_far.here ∙ ap (back tail last start) e
 
       pub collects_more : next ≢ start → Collecting tail last start (m + 1) next (set ring m step)
       collects_more other =
@@ -50,7 +45,3 @@ module _ (tail last : ℕ → ℕ) (start : ℕ) where
               | inr before ↦ so_far.first j some (omega arith)
             ];
           }
-
-      pub collects_all : next ≡ start → Closed tail last start (m + 1) (reads (set ring m step))
-      collects_all again =
-          record { some = omega arith; steps = written; closes = sym further ∙ again; first = λ j some l. so_far.first j some (omega arith) }

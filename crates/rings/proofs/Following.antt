@@ -1,9 +1,9 @@
 -- As many last steps as there are nodes lead onto a ring. Assumes nothing.
-use Rattle.std.proofs.Common.{◌≡◌, ℕ, zero, suc, ◌+◌, ◌-◌, ◌<◌, ◌≤◌, ◌≢◌, sym, refl, ap, ◌∙◌, subst, inl, inr, arith}
+use Rattle.std.proofs.Common.{◌≡◌, ℕ, zero, suc, ◌+◌, ◌-◌, ◌<◌, ◌≤◌, ◌≢◌, sym, ap, ◌∙◌, subst, inl, inr, arith}
 use Rattle.std.proofs.lemmas.Bool.{cases_eq}
 use Rattle.heights.specs.Search.{back}
 use Rattle.heights.proofs.Repeats.{Repeat, repeats}
-use Rattle.rings.specs.Chains.{Returns, Ends}
+use Rattle.rings.specs.Chains.{Returns}
 
 -- j steps lead from node v to a node, all of them last steps between nodes that are there
 pub record Leading (n : ℕ) (tail last : ℕ → ℕ) (v j at : ℕ) : Type 0 where
@@ -12,9 +12,6 @@ pub record Leading (n : ℕ) (tail last : ℕ → ℕ) (v j at : ℕ) : Type 0 w
   pub long : (t : ℕ) → t < j → last (back tail last v t) ≢ 0
 
 module _ (n : ℕ) (tail last : ℕ → ℕ) (v : ℕ) where
-  pub leads_none : v < n → Leading n tail last v 0 v
-  leads_none h = record { here = refl; there = λ t l. (let z : t ≡ 0 = omega arith in rw z h); long = λ t l. absurd (omega arith) }
-
   pub back-add : (i j : ℕ) → back tail last (back tail last v i) j ≡ back tail last v (i + j)
   back-add i zero = let e : i ≡ i + 0 = omega arith in ap (back tail last v) e
   back-add i (suc j) = let e : suc (i + j) ≡ i + suc j = omega arith in ap (λ w. tail (last w - 1)) (back-add i j) ∙ ap (back tail last v) e
@@ -58,10 +55,12 @@ module _ (n : ℕ) (tail last : ℕ → ℕ) (v : ℕ) where
           long = λ t l e. whole.long ((n + t) - period) (omega arith) (ap last (sym (from_there t ∙ earlier (n + t) (omega arith))) ∙ e);
         }
 
-  pub leads_more : (j at next : ℕ) → Leading n tail last v j at → last at ≢ 0 → next ≡ tail (last at - 1) → next < n → Leading n tail last v (j + 1) next
-  leads_more j at next so_far some leads below =
+  pub leads_more : (j at step next : ℕ) → Leading n tail last v j at → last at ≡ suc step → next ≡ tail step → next < n → Leading n tail last v (j + 1) next
+  leads_more j at step next so_far is leads below =
       let e : suc j ≡ j + 1 = omega arith in
-      let further : next ≡ back tail last v (j + 1) = leads ∙ ap (λ w. tail (last w - 1)) so_far.here ∙ ap (back tail last v) e in
+      let taken : step ≡ last at - 1 = omega arith in
+      let some : last at ≢ 0 = omega arith in
+      let further : next ≡ back tail last v (j + 1) = leads ∙ ap tail taken ∙ ap (λ w. tail (last w - 1)) so_far.here ∙ ap (back tail last v) e in
       record {
         here = further;
         there = λ t l. elim (cases_eq t (j + 1)) [
@@ -73,6 +72,3 @@ module _ (n : ℕ) (tail last : ℕ → ℕ) (v : ℕ) where
           | inr before ↦ so_far.long t (omega arith)
         ];
       }
-
-  pub leads_to_end : (j at : ℕ) → Leading n tail last v j at → j < n → last at ≡ 0 → Ends n tail last v
-  leads_to_end j at so_far few none = record { at = j; few = few; long = so_far.long; root = ap last (sym so_far.here) ∙ none }

@@ -1,4 +1,4 @@
-pub mod Units
+pub mod Laws
 pub mod Collecting
 pub mod Following
 pub mod Going

@@ -1,4 +1,7 @@
 pub mod Rows
+pub mod Ways
+pub mod Residual
+pub mod Scratch
 pub mod Steps
 pub mod Numbers
 pub mod Tries

@@ -3,49 +3,62 @@ ghost use Rattle.std.specs.Prelude.{◌≡◌, ℕ, ◌*◌, ◌<◌, ◌≤◌,
 ghost use Rattle.day.specs.Bills.{reads};
 ghost use Rattle.rings.specs.Chains.{tail_of, Returns, Closed, Followed};
 ghost use Rattle.rings.specs.Rows.{network_in};
+ghost use Rattle.rings.specs.Scratch.{RowsEach, RingWritten};
+ghost use Rattle.rings.specs.Ways.{LastIn};
 
 use crate::network::Network;
-use crate::steps::tail_of;
+use crate::scratch::Scratch;
+use crate::ways::Way;
 
-// Writes the steps of the ring on which a node lies, and returns how many they are.
-fn collect(network: Network, last: &[u16], start: u16, ring: &mut [u64]) -> usize
-    requires there { start < network.nodes }
-    requires last { length last.now ≡ network.nodes }
-    requires steps { (v : ℕ) → v < network.nodes → reads last.now v ≤ 2 * length network.tail.now }
-    requires ring { length ring.old ≡ network.nodes }
-    requires returns { Returns network.nodes (tail_of (network_in network)) (reads last.now) start }
-    ensures few { result ≤ network.entry.nodes }
-    ensures closed { Closed (tail_of (network_in network.entry)) (reads last.now) start result (reads ring.new) }
-{
-    let mut at = start;
-    let mut m = 0;
-    'ring: loop {
-        let step = last[at as usize] - 1;
-        ring[m] = u64::from(step);
-        at = tail_of(network, step as usize);
-        m += 1;
-        if at == start {
-            return m;
+impl Scratch<'_> {
+    // The last step of a node.
+    fn last_step(&self, v: u16) -> Option<Way>
+        requires { v < length self.now.last.now }
+        ensures { LastIn (reads self.now.last.now v) result }
+    {
+        let held = u64::from(self.last[usize::from(v)]);
+        Some(Way::from(held.checked_sub(1)?))
+    }
+
+    // Writes the steps of the ring on which a node lies, and returns how many they are.
+    fn collect(&mut self, network: Network, start: u16) -> usize
+        requires there { start < network.nodes }
+        requires rows { RowsEach network.nodes self.old }
+        requires steps { (v : ℕ) → v < network.nodes → reads self.old.last.now v ≤ 2 * length network.tail.now }
+        requires returns { Returns network.nodes (tail_of (network_in network)) (reads self.old.last.now) start }
+        ensures few { result ≤ network.entry.nodes }
+        ensures closed { Closed (tail_of (network_in network.entry)) (reads self.old.last.now) start result (reads self.new.ring.now) }
+        ensures kept { RingWritten self.old self.new }
+    {
+        let mut at = start;
+        // counted by hand: with a `for` over the places of the row, searches of 512 nodes and 4,096 arcs took 14% longer
+        let mut m = 0;
+        'ring: loop {
+            let Some(way) = self.last_step(at) else {
+                unreachable!()
+            };
+            self.ring[m] = way.number();
+            at = network.tail_of(way);
+            m += 1;
+            if at == start {
+                return m;
+            }
         }
     }
-}
 
-// Follows the last steps back from a node. Where they go on for as many steps as there are nodes, they are in a ring by then:
-// writes its steps, and returns how many they are.
-pub(crate) fn follow(network: Network, last: &[u16], from: u16, ring: &mut [u64]) -> Option<usize>
-    requires there { from < network.nodes }
-    requires last { length last.now ≡ network.nodes }
-    requires steps { (v : ℕ) → v < network.nodes → reads last.now v ≤ 2 * length network.tail.now }
-    requires ring { length ring.old ≡ network.nodes }
-    ensures { Followed network.entry.nodes (tail_of (network_in network.entry)) (reads last.now) from ring.new result }
-{
-    let mut at = from;
-    for passed in 0..network.nodes {
-        let step = last[at as usize];
-        if step == 0 {
-            return None;
+    // Follows the last steps back from a node. Where they go on for as many steps as there are nodes, they are in a ring by
+    // then: writes its steps, and returns how many they are.
+    pub(crate) fn follow(&mut self, network: Network, from: u16) -> Option<usize>
+        requires there { from < network.nodes }
+        requires rows { RowsEach network.nodes self.old }
+        requires steps { (v : ℕ) → v < network.nodes → reads self.old.last.now v ≤ 2 * length network.tail.now }
+        ensures followed { Followed network.entry.nodes (tail_of (network_in network.entry)) (reads self.old.last.now) from self.new.ring.now result }
+        ensures kept { RingWritten self.old self.new }
+    {
+        let mut at = from;
+        'steps: for _ in 0..network.nodes {
+            at = network.tail_of(self.last_step(at)?);
         }
-        at = tail_of(network, step as usize - 1);
+        Some(self.collect(network, at))
     }
-    Some(collect(network, last, at, ring))
 }

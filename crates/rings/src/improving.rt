@@ -2,11 +2,13 @@
 ghost use Rattle.std.specs.Prelude.{max};
 ghost use Rattle.rings.specs.Improving.{Improves};
 ghost use Rattle.rings.specs.Rows.{network_in};
+ghost use Rattle.rings.specs.Scratch.{SameRows};
 
 use crate::network::Network;
+use crate::residual::Residual;
 use crate::rows::{Unfit, check};
-use crate::search::search;
-use crate::striking::{push, smallest_room};
+use crate::scratch::Scratch;
+use crate::striking::push;
 
 // Looks for a ring whose steps all have room for `least` cents, one at least, strikes out along it as much as its smallest
 // room allows, and returns how much that is. Where there is none, the flow stays as it is and the numbers are potentials by
@@ -15,17 +17,22 @@ pub fn improve(
     network: Network,
     flow: &mut [u64],
     least: u64,
-    number: &mut [i32],
-    last: &mut [u16],
-    ring: &mut [u64],
+    scratch: &mut Scratch,
 ) -> Result<Option<u64>, Unfit>
-    ensures { Improves (network_in network.entry) (max least 1) flow.old flow.new number.old number.new last.old last.new ring.old ring.new result }
+    ensures improves { Improves (network_in network.entry) (max least 1) flow.old flow.new scratch.old scratch.new result }
+    ensures same { SameRows scratch.old scratch.new }
 {
-    check(network, flow, number, last, ring)?;
-    let Some(m) = search(network, flow, least.max(1), number, last, ring) else {
+    check(network, flow, scratch)?;
+    let residual = Residual {
+        network,
+        flow,
+        least: least.max(1),
+    };
+    let Some(m) = residual.search(scratch) else {
         return Ok(None);
     };
-    let cents = smallest_room(network, flow, ring, m);
-    push(flow, ring, m, cents);
+    let steps = &scratch.ring[..m];
+    let cents = residual.smallest_room(steps);
+    push(flow, steps, cents);
     Ok(Some(cents))
 }

@@ -4,12 +4,16 @@
 mod chains;
 mod improving;
 mod network;
+mod residual;
 mod rows;
+mod scratch;
 mod search;
 mod steps;
 mod striking;
 mod tries;
+mod ways;
 
 pub use improving::improve;
 pub use network::Network;
 pub use rows::Unfit;
+pub use scratch::Scratch;

@@ -4,6 +4,7 @@ ghost use Rattle.rings.specs.Improving.{RowsFit, Unfits};
 ghost use Rattle.rings.specs.Rows.{network_in};
 
 use crate::network::Network;
+use crate::scratch::Scratch;
 
 // Which row is not as long as it has to be, and its length.
 #[derive(Clone, Copy, PartialEq, Eq, Debug)]
@@ -16,27 +17,20 @@ pub enum Unfit {
     Ring(usize),
 }
 
-pub(crate) fn check(
-    network: Network,
-    flow: &[u64],
-    number: &[i32],
-    last: &[u16],
-    ring: &[u64],
-) -> Result<(), Unfit>
-    ensures { MatchResult result (λ _. RowsFit (network_in network.entry) flow.now number.now last.now ring.now) (λ u. Unfits (network_in network.entry) flow.now number.now last.now ring.now u) }
+pub(crate) fn check(network: Network, flow: &[u64], scratch: &Scratch) -> Result<(), Unfit>
+    ensures { MatchResult result (λ _. RowsFit (network_in network.entry) flow.now scratch.now) (λ u. Unfits (network_in network.entry) flow.now scratch.now u) }
 {
-    let nodes = network.nodes as usize;
-    if flow.len() != network.tail.len() {
-        return Err(Unfit::Flow(flow.len()));
+    let nodes = usize::from(network.nodes);
+    match (
+        flow.len(),
+        scratch.number.len(),
+        scratch.last.len(),
+        scratch.ring.len(),
+    ) {
+        (len, ..) if len != network.tail.len() => Err(Unfit::Flow(len)),
+        (_, len, ..) if len != nodes => Err(Unfit::Number(len)),
+        (.., len, _) if len != nodes => Err(Unfit::Last(len)),
+        (.., len) if len != nodes => Err(Unfit::Ring(len)),
+        _ => Ok(()),
     }
-    if number.len() != nodes {
-        return Err(Unfit::Number(number.len()));
-    }
-    if last.len() != nodes {
-        return Err(Unfit::Last(last.len()));
-    }
-    if ring.len() != nodes {
-        return Err(Unfit::Ring(ring.len()));
-    }
-    Ok(())
 }

@@ -1,43 +1,37 @@
 // Striking out along a ring, as much as its smallest room allows, and giving back as much on its steps back.
-ghost use Rattle.std.specs.Prelude.{◌≡◌, ℕ, ◌*◌, ◌<◌, ◌≤◌, length};
+ghost use Rattle.std.specs.Prelude.{◌≡◌, ℕ, ◌*◌, ◌<◌, length};
 ghost use Rattle.day.specs.Bills.{reads};
-ghost use Rattle.heights.specs.Residual.{room_of, pushed_all};
-ghost use Rattle.rings.specs.Rows.{network_in};
+ghost use Rattle.heights.specs.Residual.{pushed_all};
+ghost use Rattle.rings.specs.Residual.{residual_in};
 ghost use Rattle.rings.specs.Striking.{Smallest, Pushable};
 
-use crate::network::Network;
-use crate::steps::step_at;
+use crate::residual::Residual;
+use crate::ways::Way;
 
-// The smallest room of the first m steps of the row.
-pub(crate) fn smallest_room(network: Network, flow: &[u64], ring: &[u64], m: usize) -> u64
-    requires flow { length flow.now ≡ length network.tail.now }
-    requires some { 0 < m }
-    requires room { m ≤ length ring.now }
-    requires there { (j : ℕ) → j < m → reads ring.now j < 2 * length network.tail.now }
-    ensures { Smallest (room_of (network_in network.entry) (reads flow.now)) (reads ring.now) m result }
-{
-    let mut smallest = step_at(network, flow, ring[0] as usize).room;
-    for j in 1..m {
-        let room = step_at(network, flow, ring[j] as usize).room;
-        if room < smallest {
-            smallest = room;
+impl Residual<'_> {
+    // The smallest room of the steps of a ring.
+    pub(crate) fn smallest_room(self, ring: &[u64]) -> u64
+        requires some { 0 < length ring.now }
+        requires there { (j : ℕ) → j < length ring.now → reads ring.now j < 2 * length self.network.tail.now }
+        ensures { Smallest (residual_in self.entry).room (reads ring.now) (length ring.now) result }
+    {
+        let mut smallest = u64::MAX;
+        for step in ring {
+            smallest = smallest.min(self.step(Way::from(*step)).room);
         }
+        smallest
     }
-    smallest
 }
 
-// Pushes cents along the first m steps of the row: more on an arc that a step goes along, less on one that it goes back.
-pub(crate) fn push(flow: &mut [u64], ring: &[u64], m: usize, cents: u64)
-    requires room { m ≤ length ring.now }
-    requires pushable { Pushable (length flow.old) (reads flow.old) (reads ring.now) m cents }
-    ensures { reads flow.new ≡ pushed_all (reads flow.old) (reads ring.now) cents m }
+// Pushes cents along the steps of a ring: more on an arc that a step goes along, less on one that it goes back.
+pub(crate) fn push(flow: &mut [u64], ring: &[u64], cents: u64)
+    requires { Pushable (length flow.old) (reads flow.old) (reads ring.now) (length ring.now) cents }
+    ensures { reads flow.new ≡ pushed_all (reads flow.old) (reads ring.now) cents (length ring.now) }
 {
-    for j in 0..m {
-        let step = ring[j] as usize;
-        if step % 2 == 0 {
-            flow[step / 2] += cents;
-        } else {
-            flow[step / 2] -= cents;
+    for step in ring {
+        match Way::from(*step) {
+            Way::Along(e) => flow[e] += cents,
+            Way::Back(e) => flow[e] -= cents,
         }
     }
 }

@@ -1,56 +1,46 @@
 // Trying the steps of an arc: a step that is open and leads higher raises the node that it leads to.
-ghost use Rattle.std.specs.Prelude.{◌≡◌, ◌+◌, ◌*◌, ◌<◌, length};
-ghost use Rattle.day.specs.Bills.{reads};
-ghost use Rattle.heights.specs.Residual.{residual};
+ghost use Rattle.std.specs.Prelude.{◌≡◌, ◌*◌, ◌<◌, length};
 ghost use Rattle.rings.specs.Numbers.{Below};
-ghost use Rattle.rings.specs.Rows.{network_in};
+ghost use Rattle.rings.specs.Residual.{residual_in};
+ghost use Rattle.rings.specs.Scratch.{SameRows};
 ghost use Rattle.rings.specs.Tries.{Tried, ArcTried};
+ghost use Rattle.rings.specs.Ways.{step_in};
 
-use crate::network::Network;
-use crate::steps::step_at;
+use crate::residual::Residual;
+use crate::scratch::Scratch;
+use crate::ways::Way;
 
-// Tries one step. What it leads to is one less than its tail's number where it goes back, and that can be below 0.
-fn try_step(
-    network: Network,
-    flow: &[u64],
-    least: u64,
-    f: usize,
-    number: &mut [i32],
-    last: &mut [u16],
-) -> Option<u16>
-    requires there { f < 2 * length network.tail.now }
-    requires flow { length flow.now ≡ length network.tail.now }
-    requires number { Below network.nodes network.nodes number.old }
-    requires last { length last.old ≡ network.nodes }
-    ensures { Tried (residual (network_in network.entry) (reads flow.now) least) f number.old number.new last.old last.new result }
-{
-    let step = step_at(network, flow, f);
-    let reached = number[step.tail as usize] + step.gain;
-    if step.room < least || reached <= number[step.head as usize] {
-        return None;
+impl Residual<'_> {
+    // Tries one step. What it leads to is one less than its tail's number where it goes back, and that can be below 0.
+    fn try_step(self, way: Way, scratch: &mut Scratch) -> Option<u16>
+        requires there { step_in way < 2 * length self.network.tail.now }
+        requires number { Below self.network.nodes self.network.nodes scratch.old.number.now }
+        requires last { length scratch.old.last.now ≡ self.network.nodes }
+        ensures tried { Tried (residual_in self.entry) (step_in way) scratch.old scratch.new result }
+        ensures same { SameRows scratch.old scratch.new }
+    {
+        let step = self.step(way);
+        let head = usize::from(step.head);
+        let reached = scratch.number[usize::from(step.tail)] + step.gain;
+        if step.room < self.least || reached <= scratch.number[head] {
+            return None;
+        }
+        scratch.number[head] = reached;
+        scratch.last[head] = (way.number() + 1) as u16;
+        Some(step.head)
     }
-    number[step.head as usize] = reached;
-    last[step.head as usize] = (f + 1) as u16;
-    Some(step.head)
-}
 
-// Tries an arc: along it, and back along it where that raises nothing. Returns the node that was raised.
-pub(crate) fn try_arc(
-    network: Network,
-    flow: &[u64],
-    least: u64,
-    e: usize,
-    number: &mut [i32],
-    last: &mut [u16],
-) -> Option<u16>
-    requires there { e < length network.tail.now }
-    requires flow { length flow.now ≡ length network.tail.now }
-    requires number { Below network.nodes network.nodes number.old }
-    requires last { length last.old ≡ network.nodes }
-    ensures { ArcTried (residual (network_in network.entry) (reads flow.now) least) e number.old number.new last.old last.new result }
-{
-    if let Some(v) = try_step(network, flow, least, 2 * e, number, last) {
-        return Some(v);
+    // Tries an arc: along it, and back along it where that raises nothing. Returns the node that was raised.
+    pub(crate) fn try_arc(self, e: usize, scratch: &mut Scratch) -> Option<u16>
+        requires there { e < length self.network.tail.now }
+        requires number { Below self.network.nodes self.network.nodes scratch.old.number.now }
+        requires last { length scratch.old.last.now ≡ self.network.nodes }
+        ensures tried { ArcTried (residual_in self.entry) e scratch.old scratch.new result }
+        ensures same { SameRows scratch.old scratch.new }
+    {
+        if let Some(v) = self.try_step(Way::Along(e), scratch) {
+            return Some(v);
+        }
+        self.try_step(Way::Back(e), scratch)
     }
-    try_step(network, flow, least, 2 * e + 1, number, last)
 }

@@ -4,11 +4,11 @@ use Rattle.rings.specs.Rows.{network_in}
 use Rattle.greatest.proofs.Gains.{gains_on}
 use Rattle.greatest.proofs.climbing.climb_in_scales.Goals as goal
 
-pub returns : goal.returns
-returns c =
-    let last = c.climb-2.ensures in
+pub returns-clause-climbed : goal.returns-clause-climbed
+returns-clause-climbed c =
+    let last = c.climb-2.ensures.climbed in
     record {
       even = last.even;
-      more = gains_on (gain (network_in c.args.network)) c.args.flow.now c.scales.flow c.climb-2.new.flow c.scales.invariant.2 last.more;
+      more = gains_on (gain (network_in c.args.network)) c.args.flow.now c.scales.flow c.climb-2.new.flow c.scales.invariant.more last.more;
       settled = last.settled;
     }

@@ -1,34 +1,14 @@
 -- The day is a network in which every arc counts, and what is certified of it is shown of the day.
-use Rattle.std.proofs.Common.{replicate, pos, ap, ◌∙◌, arith}
 use Rattle.day.specs.Bills.{reads}
 use Rattle.setoff.specs.Rows.{day_in}
-use Rattle.greatest.proofs.Counted.{circulation, set_off}
+use Rattle.greatest.proofs.Counted.{circulation}
 use Rattle.greatest.proofs.Settled.{settles}
 use Rattle.greatest.proofs.settling.settle.Goals as goal
 
-pub climb_in_scales-requires : goal.climb_in_scales-requires
-climb_in_scales-requires c =
-    record {
-      rows = record { flow_each = c.requires.rows.struck_each; number_each = c.requires.rows.number_each; last_each = c.requires.rows.last_each; ring_each = c.requires.rows.ring_each };
-      even = circulation (day_in c.args.invoices) _ _ (reads c.args.struck.now) c.requires.set;
-    }
+pub climb_in_scales-requires-clause-even : goal.climb_in_scales-requires-clause-even
+climb_in_scales-requires-clause-even c = circulation (day_in c.args.invoices) _ _ (reads c.args.struck.now) c.requires.set
 
-pub total_of-requires : goal.total_of-requires
-total_of-requires c =
-    record {
-      set = set_off (day_in c.args.invoices) _ _ (reads c.climb_in_scales.new.flow) c.climb_in_scales.ensures.even;
-      each = omega (arith, c.requires.rows.struck_each);
-    }
-
-pub returns : goal.returns
-returns c =
-    record {
-      settled =
-          settles (day_in c.args.invoices) _ _ c.args.struck.now c.climb_in_scales.new.flow c.write_heights.new.height c.climb_in_scales.new.number
-          c.climb_in_scales.new.last c.total_of.result c.climb_in_scales.ensures c.write_heights.ensures c.total_of.ensures;
-      wiped = record {
-        number_clear = c.fill.ensures.after (λ y same. same) ∙ ap (λ n. replicate n (pos 0)) (omega (arith, c.requires.rows.number_each));
-        last_clear = c.fill-2.ensures.after (λ y same. same) ∙ ap (λ n. replicate n 0) (omega (arith, c.requires.rows.last_each));
-        ring_clear = c.fill-3.ensures.after (λ y same. same) ∙ ap (λ n. replicate n 0) (omega (arith, c.requires.rows.ring_each));
-      };
-    }
+pub returns-clause-settled : goal.returns-clause-settled
+returns-clause-settled c =
+    settles (day_in c.args.invoices) _ _ c.args.struck.now c.climb_in_scales.new.flow c.write_heights.new.height c.climb_in_scales.new.scratch
+    c.total.result c.climb_in_scales.ensures.climbed c.write_heights.ensures c.total.ensures

@@ -4,5 +4,5 @@ use Rattle.day.specs.Bills.{reads}
 use Rattle.heights.specs.Residual.{pushed_all}
 use Rattle.rings.proofs.striking.push.Given as goal
 
-abbrev pub invariant-loop-j : goal.invariant-loop-j
-invariant-loop-j l = reads l.flow ≡ pushed_all (reads l.initial.flow) (reads l.ring) l.cents l.j
+abbrev pub invariant-loop-step : goal.invariant-loop-step
+invariant-loop-step l = reads l.flow ≡ pushed_all (reads l.initial.flow) (reads l.ring) l.cents l.step-index

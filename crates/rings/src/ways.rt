@@ -1,0 +1,35 @@
+// The way of a step: along an arc, or back. In lent rows a step is a number: 2e along arc e, and 2e + 1 back.
+ghost use Rattle.std.specs.Prelude.{◌≡◌, ◌^◌, ◌<◌};
+ghost use Rattle.rings.specs.Ways.{step_in};
+
+#[derive(Clone, Copy)]
+pub(crate) enum Way {
+    Along(usize),
+    Back(usize),
+}
+
+impl From<u64> for Way {
+    fn from(step: u64) -> Way
+        ensures { step_in result ≡ step }
+    {
+        let e = (step / 2) as usize;
+        if step % 2 == 0 {
+            Way::Along(e)
+        } else {
+            Way::Back(e)
+        }
+    }
+}
+
+impl Way {
+    // The step's number.
+    pub(crate) fn number(self) -> u64
+        requires { step_in self < 2 ^ 64 }
+        ensures { result ≡ step_in self }
+    {
+        match self {
+            Way::Along(e) => 2 * e as u64,
+            Way::Back(e) => 2 * e as u64 + 1,
+        }
+    }
+}
