@@ -12,6 +12,7 @@ use setoff::Invoices;
 use std::alloc::Global;
 use sums::time_sums;
 
+// By casts, since a constant calls no function.
 const AMPLE: Room = Room {
     invoices: MOST_INVOICES,
     numbers: MOST_FIRMS as usize,
@@ -53,6 +54,6 @@ fn main(rt: HostRuntime) -> Result<()> {
         "the rows are not sound",
     )?;
     let nothing = vec![in heap; 0u64; MOST_INVOICES]?;
-    let heights = vec![in heap; 0u16; MOST_FIRMS as usize]?;
+    let heights = vec![in heap; 0u16; usize::from(MOST_FIRMS)]?;
     time_sums(&rt, invoices, &nothing, &heights)
 }

@@ -21,6 +21,25 @@ impl Random {
             .wrapping_add(1442695040888963407);
         ((self.0 >> 33) % u64::from(limit.max(1))) as u16
     }
+
+    // One of so many firms that is not this one.
+    fn other(&mut self, firms: u16, firm: u16) -> u16 {
+        let next = self.below(firms.saturating_sub(1));
+        if next < firm {
+            next
+        } else {
+            next.saturating_add(1)
+        }
+    }
+
+    // A height for each of so many firms.
+    fn heights(&mut self, heap: Global, firms: u16) -> Result<Vec<u16>, AllocError> {
+        let mut row = Vec::new(heap);
+        for _ in 0..firms {
+            row.push(self.below(firms.saturating_add(1)))?;
+        }
+        Ok(row)
+    }
 }
 
 // The rows of a day, invoice by invoice, as the library takes them.
@@ -56,7 +75,7 @@ impl Rows {
         let cents = 1 + random.below(1000);
         let mut at = start;
         for _ in 0..steps {
-            let next = other(random, firms, at);
+            let next = random.other(firms, at);
             self.push(at, next, cents, random.below(3))?;
             at = next;
         }
@@ -78,24 +97,6 @@ impl Rows {
     }
 }
 
-// A firm that is not this one.
-fn other(random: &mut Random, firms: u16, firm: u16) -> u16 {
-    let next = random.below(firms.saturating_sub(1));
-    if next < firm {
-        next
-    } else {
-        next.saturating_add(1)
-    }
-}
-
-fn heights(heap: Global, random: &mut Random, firms: u16) -> Result<Vec<u16>, AllocError> {
-    let mut row = Vec::new(heap);
-    for _ in 0..firms {
-        row.push(random.below(firms.saturating_add(1)))?;
-    }
-    Ok(row)
-}
-
 #[test]
 fn closed_walks(rt: HostRuntime) -> Result<(), Fail> {
     let heap = rt.alloc();
@@ -107,7 +108,7 @@ fn closed_walks(rt: HostRuntime) -> Result<(), Fail> {
             let steps = 1 + random.below(8);
             rows.walk(&mut random, firms, steps)?;
         }
-        let heights = heights(heap, &mut random, firms)?;
+        let heights = random.heights(heap, firms)?;
         let found = find(rows.case(firms, &heights))?;
         assert_eq!(rt; found.uneven, None);
         assert!(rt; found.total <= found.bound);
@@ -126,11 +127,11 @@ fn one_cent_less(rt: HostRuntime) -> Result<(), Fail> {
         for _ in 0..5 {
             rows.walk(&mut random, firms, 3)?;
         }
-        let e = random.below(15) as usize;
+        let e = usize::from(random.below(15));
         assert!(rt; e < rows.cents.len() && e < rows.from.len() && e < rows.to.len());
         rows.cents[e] = rows.cents[e].saturating_sub(1);
         let first = rows.from[e].min(rows.to[e]);
-        let heights = heights(heap, &mut random, firms)?;
+        let heights = random.heights(heap, firms)?;
         let found = find(rows.case(firms, &heights))?;
         assert_eq!(rt; found.uneven, Some(first));
     }

@@ -1,6 +1,7 @@
 // What a search is lent to work in.
 
 // Rows of plain numbers, since lent memory is such, each with a place for each node.
+// A function that is lent one promises `SameRows`: without that its caller would not know its own rows after.
 #[derive(Drop)]
 pub struct Scratch<'a> {
     // the node's number

@@ -22,7 +22,7 @@ impl From<u64> for Way {
 }
 
 impl Way {
-    // The step's number.
+    // The step's number. A method and no `From`, since it asks that the number fits.
     pub(crate) fn number(self) -> u64
         requires { step_in self < 2 ^ 64 }
         ensures { result ≡ step_in self }

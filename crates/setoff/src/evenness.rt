@@ -6,7 +6,7 @@ ghost use Rattle.setoff.specs.Uneven.{Evenness};
 use crate::struck::Struck;
 use day::MOST_FIRMS;
 
-// A place for each firm of the largest day.
+// A place for each firm of the largest day, by a cast, since a constant calls no function.
 const PLACES: usize = MOST_FIRMS as usize;
 
 // What a firm gains by being let off, and what it gives by letting others off.

@@ -23,6 +23,7 @@ fn is_sound(firms: u16, invoice: Invoice) -> bool
 }
 
 // Whether the rows have a place for each invoice and keep the limits of a clearing day.
+// They come one by one, as a caller lends them; what holds them together is `Invoices`.
 pub fn are_sound(firms: u16, from: &[u16], to: &[u16], amount: &[u64]) -> bool
     ensures { IsTrue result ↔ (SoundRows firms from.now to.now amount.now) }
 {
