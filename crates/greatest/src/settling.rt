@@ -10,7 +10,8 @@ use crate::climbing::climb_in_scales;
 use rings::{Network, Scratch};
 use setoff::{Invoices, Struck};
 
-// Where no ring is left the numbers of the search, signed until then, are the heights.
+// Where no ring is left the numbers of the search, signed until then, are the heights. They are written by index: what goes
+// through `iter_mut` is not known after.
 fn write_heights(number: &[i32], height: &mut [u16])
     requires each { length height.old ≡ length number.now }
     requires low { Below 4096 (length number.now) number.now }
@@ -46,6 +47,7 @@ pub(crate) fn settle(
     scratch.number.fill(0);
     scratch.last.fill(0);
     scratch.ring.fill(0);
+    // a literal and no `new`: that the cents fit is proved, and there is no refusal to hand on
     let struck = Struck {
         invoices,
         cents: struck,

@@ -22,7 +22,8 @@ impl Struck<'_> {
         sum
     }
 
-    // What the firm is let off, on the invoices that it owes.
+    // What the firm is let off, on the invoices that it owes. Two calls and none with a parameter for the side: members have a
+    // word for either.
     #[tactic(auto, unfolding(day::specs::Bills::let_off))]
     pub fn let_off(self, firm: u16) -> u64
         ensures { result ≡ let_off (day_in self.entry.invoices) (cents_in self.entry) firm }
