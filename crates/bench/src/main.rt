@@ -1,5 +1,5 @@
 // The benchmark: how long it takes to read a day of 512 firms and 4,096 invoices that are all in memory, and to add it up.
-// It prints on standard error, since times differ from run to run, and fails only where the time is past all bounds.
+// It prints on standard error, since times differ from run to run, and fails where an answer is wrong or a time is past all bounds.
 #![tactic(auto)]
 
 mod clock;
@@ -19,7 +19,7 @@ const AMPLE: Room = Room {
     rings: MOST_FIRMS as usize + 2,
 };
 
-// As many invoices as a day may have, spread over all firms.
+// As many invoices as a day may have, spread over all firms, by the generator of the tests' days: these few lines are in both.
 fn largest(heap: Global) -> Result<Vec<Invoice>> {
     let mut invoices = Vec::new(heap);
     let mut seed = 1u64;

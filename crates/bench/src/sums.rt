@@ -3,8 +3,8 @@ use crate::clock::time;
 use anyhow::{Context, Result, ensure};
 use setoff::{Invoices, Struck, are_sound};
 
-// Each call stops early at a fault, so there is none: nothing is struck out where firms are to be even, and everything where
-// heights, which are all 0, are to fit. Their bound is all that is owed.
+// Calls that stop at the first fault find none: nothing is struck out where firms are to be even, and everything where heights,
+// which are all 0, are to fit. Their bound is all that is owed.
 pub(crate) fn time_sums<'a>(
     rt: &HostRuntime,
     invoices: Invoices<'a>,

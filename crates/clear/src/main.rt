@@ -16,7 +16,7 @@ use std::io;
 use std::process::ExitCode;
 use trouble::Trouble;
 
-// Reads the day with memory enough that its want never hides another refusal.
+// Reads the day with memory enough that no day is refused for want of it.
 fn judge(heap: Global, file: &[u8]) -> Result<Result<Size, Refusal>, AllocError>
     ensures answer { IfOk result (λ a. a ≡ answered (refusal_in (ample file.now) file.now) (size_in file.now)) }
     ensures enough { IfOk result (λ a. (k : Kind) → a ≢ Err (Memory k)) }

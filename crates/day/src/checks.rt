@@ -1,4 +1,4 @@
-// The checks of a day's file, in the order of the rules: each hands on what it found, if anything, or the day is refused.
+// The checks of a day's file, in the order of the rules: each hands its value on, if it has one, or the day is refused.
 ghost use Rattle.std.specs.Prelude.{◌≡◌, map, position, if◌then◌else◌, Some, None, nat_lt};
 ghost use Rattle.std.specs.Bool.{then_some};
 ghost use Rattle.day.specs.declared.refusals.Refusal.TheVariants.{Memory};
@@ -68,7 +68,8 @@ fn each_keeps(rule: Rule, firms: u16, records: &[[u8; STRIDE]]) -> Result<(), Re
     }
 }
 
-// Whether each invoice keeps all three rules; a rule is looked for in all invoices before the next one.
+// Whether each invoice keeps all three rules; a rule is looked for in all invoices before the next one. Three calls and no loop
+// over the rules: their order is read here.
 fn rules_kept(firms: u16, records: &[[u8; STRIDE]]) -> Result<(), Refusal>
     ensures { result ≡ answered (by_rules firms (map invoice_of records.now)) tt }
 {
@@ -77,7 +78,8 @@ fn rules_kept(firms: u16, records: &[[u8; STRIDE]]) -> Result<(), Refusal>
     each_keeps(Rule::AmountInRange, firms, records)
 }
 
-// How large the day is that a file writes, or the first refusal that applies with so much room.
+// How large the day is that a file writes, or the first refusal that applies with so much room. A check that has a value hands
+// it on by `let .. else`, with its refusal beside it.
 #[tactic(auto, unfolding(crate::specs::Reading::refusal_in))]
 pub(crate) fn check(file: &[u8], room: Room) -> Result<Size, Refusal>
     ensures { result ≡ answered (refusal_in room file.now) (size_in file.now) }

@@ -28,7 +28,7 @@ fn judge(file: &[u8], from: &[u16], to: &[u16], amount: &[u64], room: Room) -> R
     check(file, room)
 }
 
-// Writes the file's invoices into the first places of three rows, by index: what goes through `iter_mut` is not known after.
+// Writes the file's invoices into the first places of three rows, by index: the proof doesn't know what went through `iter_mut`.
 fn fill(file: &[u8], from: &mut [u16], to: &mut [u16], amount: &mut [u64])
     requires { Writable file.now from.old to.old amount.old }
     ensures from { from.new ≡ row_read (debtors (invoices_in file.now)) from.old }
@@ -47,7 +47,7 @@ fn fill(file: &[u8], from: &mut [u16], to: &mut [u16], amount: &mut [u64])
 
 // Reads a day into the first places of three lent rows. Of the other lent memory only its room is looked at:
 // `room` counts the places in the invoices' other rows, in the firms' rows, and for rings.
-// The rows are plain slices and no struct, since a caller in C lends each by itself.
+// The rows are plain slices and no struct, here and in the parts above, since a caller in C lends each by itself.
 pub fn read(
     file: &[u8],
     from: &mut [u16],

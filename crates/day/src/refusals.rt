@@ -46,7 +46,7 @@ impl Refusal {
         }
     }
 
-    // 0, the file's length, an invoice, or a kind of memory.
+    // The place where it is broken: 0, the file's length, an invoice, or a kind of memory.
     pub fn place(self) -> usize
         ensures { result ≡ place_of self }
     {
@@ -61,6 +61,7 @@ impl Refusal {
     }
 }
 
+// By hand, so that `output` says what is shown.
 impl fmt::Display for Refusal {
     ghost output = { λ r. Some (refusal_text r) };
 

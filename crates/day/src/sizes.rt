@@ -24,6 +24,7 @@ pub struct Room {
     pub rings: usize,
 }
 
+// By hand, so that `output` says what is shown.
 impl fmt::Display for Size {
     ghost output = { λ s. Some (size_text s) };
 

@@ -30,7 +30,7 @@ impl Struck<'_> {
         ensures { Evenness (day_in self.entry.invoices) (cents_in self.entry) result }
     {
         let mut sums = [Sums::default(); PLACES];
-        // a zip of the three rows takes from 1.2 to 1.6 times as long
+        // by number: a zip of the three rows takes from 1.2 to 1.6 times as long
         for (e, &cents) in self.cents.iter().enumerate() {
             sums[usize::from(self.invoices.from[e])].let_off += cents;
             sums[usize::from(self.invoices.to[e])].lets_off += cents;

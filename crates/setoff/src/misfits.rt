@@ -13,7 +13,8 @@ pub enum Misfit {
     Above(usize),
 }
 
-// Whether a row of cents has a place for each invoice, and takes from none more than it is.
+// Whether a row of cents has a place for each invoice, and takes from none more than it is. Heights are looked through in the
+// same way: one function for both would ask for the limits as a closure and for an order of its numbers, for these few lines.
 pub fn within(invoices: Invoices, cents: &[u64]) -> Result<(), Misfit>
     ensures { Strikes (day_in invoices.entry) cents.now result }
 {

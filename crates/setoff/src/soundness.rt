@@ -1,4 +1,4 @@
-// Whether lent rows are a sound day, so that a caller who tests them can make `Invoices` of them.
+// Whether lent rows are a sound day.
 ghost use Rattle.std.specs.Prelude.{◌^◌, ◌<◌, ◌≤◌, ◌≢◌, ◌↔◌, IsTrue};
 ghost use Rattle.setoff.specs.Sound.{SoundRows};
 

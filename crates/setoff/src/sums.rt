@@ -6,7 +6,7 @@ ghost use Rattle.setoff.specs.Rows.{day_in, cents_in};
 use crate::struck::Struck;
 
 impl Struck<'_> {
-    // What is struck out of the invoices at which the firm stands in a row, as in that of who owes and in that of who is owed.
+    // What is struck out of the invoices at which the firm stands in a row, be it that of who owes or that of who is owed.
     #[tactic(auto, using(crate::proofs::Portions::share_none, crate::proofs::Portions::share_same, crate::proofs::Portions::share_other, crate::proofs::Portions::more_fits))]
     fn share_of(self, row: &[u16], firm: u16) -> u64
         requires { length row.now ≡ length self.cents.now }
