@@ -17,19 +17,15 @@ pub(crate) fn time_sums<'a>(
         Ok(())
     })?;
     let too_much = "more is struck out than there is";
-    let untouched = Struck::new(invoices, nothing).ok().context(too_much)?;
-    let cleared = Struck::new(invoices, invoices.amount)
-        .ok()
-        .context(too_much)?;
+    let untouched = Struck::new(invoices, nothing).context(too_much)?;
+    let cleared = Struck::new(invoices, invoices.amount).context(too_much)?;
     let owed = cleared.total();
     time(rt, "even", || {
         ensure!(untouched.first_uneven().is_none(), "a firm is not even");
         Ok(())
     })?;
     time(rt, "bound", || {
-        let bound = heights::bound(invoices, heights)
-            .ok()
-            .context("the heights are turned away")?;
+        let bound = heights::bound(invoices, heights).context("the heights are turned away")?;
         ensure!(bound == owed, "the bound is another one");
         Ok(())
     })?;

@@ -21,17 +21,18 @@ pub(crate) struct Rows {
 }
 
 impl Rows {
-    // Rows of these lengths, full of sevens, eights and nines.
+    // Rows of these lengths, each full of its number.
     pub(crate) fn new(
         heap: Global,
-        from: usize,
-        to: usize,
-        amount: usize,
+        lengths: [usize; 3],
+        full_of: [u16; 3],
     ) -> Result<Rows, AllocError> {
+        let [from, to, amount] = lengths;
+        let [debtor, creditor, cents] = full_of;
         Ok(Rows {
-            from: vec![in heap; 7; from]?,
-            to: vec![in heap; 8; to]?,
-            amount: vec![in heap; 9; amount]?,
+            from: vec![in heap; debtor; from]?,
+            to: vec![in heap; creditor; to]?,
+            amount: vec![in heap; u64::from(cents); amount]?,
         })
     }
 
@@ -57,7 +58,7 @@ pub(crate) fn expect(
     answer: Answer,
 ) -> Result<(), Fail> {
     let invoices = day::whole_invoices(file);
-    let mut rows = Rows::new(heap, invoices, invoices, invoices)?;
+    let mut rows = Rows::new(heap, [invoices; 3], [0; 3])?;
     assert_eq!(rt; rows.read(file, AMPLE), answer);
     Ok(())
 }

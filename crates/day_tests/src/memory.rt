@@ -25,7 +25,7 @@ fn one_too_short(rt: HostRuntime) -> Result<(), Fail> {
         (2, 2, 2, 2, 0, 0, Err(Refusal::Memory(Kind::Numbers))),
     ];
     for (from, to, amount, invoices, numbers, rings, answer) in cases {
-        let mut rows = Rows::new(heap, from, to, amount)?;
+        let mut rows = Rows::new(heap, [from, to, amount], [7; 3])?;
         let room = Room {
             invoices,
             numbers,
@@ -39,7 +39,7 @@ fn one_too_short(rt: HostRuntime) -> Result<(), Fail> {
 #[test]
 fn longer_than_needed(rt: HostRuntime) -> Result<(), Fail> {
     let heap = rt.alloc();
-    let mut rows = Rows::new(heap, 4, 3, 5)?;
+    let mut rows = Rows::new(heap, [4, 3, 5], [7, 8, 9])?;
     assert_eq!(rt; rows.read(&small(heap)?, AMPLE), taken(3, 2));
     assert_eq!(rt; rows.from.as_slice(), [0, 2, 7, 7].as_slice());
     assert_eq!(rt; rows.to.as_slice(), [1, 0, 8].as_slice());
@@ -50,7 +50,7 @@ fn longer_than_needed(rt: HostRuntime) -> Result<(), Fail> {
 #[test]
 fn refused_as_it_was(rt: HostRuntime) -> Result<(), Fail> {
     let heap = rt.alloc();
-    let mut rows = Rows::new(heap, 3, 3, 3)?;
+    let mut rows = Rows::new(heap, [3; 3], [7, 8, 9])?;
     let file = day::write(heap, 3, &[invoice(0, 1, 500), invoice(2, 0, 0)])?;
     assert_eq!(rt; rows.read(&file, AMPLE), Err(Refusal::Amount(1)));
     assert_eq!(rt; rows.from.as_slice(), [7, 7, 7].as_slice());

@@ -72,7 +72,7 @@ fn memory_before_too_many(rt: HostRuntime) -> Result<(), Fail> {
     let heap = rt.alloc();
     let many = vec![in heap; invoice(0, 1, 1); 4097]?;
     let file = day::write(heap, 2, &many)?;
-    let mut rows = Rows::new(heap, 4096, 4097, 4097)?;
+    let mut rows = Rows::new(heap, [4096, 4097, 4097], [0; 3])?;
     assert_eq!(rt;
         rows.read(&file, AMPLE),
         Err(Refusal::Memory(Kind::Invoices))

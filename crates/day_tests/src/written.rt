@@ -22,7 +22,7 @@ fn read_back(rt: HostRuntime) -> Result<(), Fail> {
             invoice(0, 257, 72_623_859_790),
         ],
     )?;
-    let mut rows = Rows::new(rt.alloc(), 2, 2, 2)?;
+    let mut rows = Rows::new(rt.alloc(), [2; 3], [0; 3])?;
     let room = Room {
         invoices: 2,
         ..AMPLE

@@ -1,4 +1,5 @@
 // The edges of each rule: which rows are sound, which cents can be struck out, which heights are taken.
+use crate::days::pair;
 use crate::helpers::{Case, look};
 use day::MOST_CENTS;
 use setoff::{Misfit, are_sound};
@@ -41,17 +42,6 @@ fn sound_sizes(rt: HostRuntime) -> Result<(), Fail> {
         assert_eq!(rt; are_sound(2, &from, &to, &amount), sound);
     }
     Ok(())
-}
-
-fn pair<'a>(cents: &'a [u64], heights: &'a [u16]) -> Case<'a> {
-    Case {
-        firms: 2,
-        from: &[0, 1],
-        to: &[1, 0],
-        amount: &[10, 7],
-        cents,
-        heights,
-    }
 }
 
 #[test]

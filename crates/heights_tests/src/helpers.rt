@@ -48,20 +48,14 @@ pub(crate) fn greatest(total: u64) -> Found {
     }
 }
 
-fn turned_away(_: Misfit) -> Fail {
-    Fail::new("the heights are turned away")
-}
-
 pub(crate) fn find(case: Case) -> Result<Found, Fail> {
     let invoices = case.invoices()?;
-    let struck = Struck::new(invoices, case.cents).map_err(|_| Fail::new(
-        "more is struck out than there is",
-    ))?;
+    let struck = Struck::new(invoices, case.cents)?;
     Ok(Found {
         uneven: struck.first_uneven(),
         total: struck.total(),
-        bound: bound(invoices, case.heights).map_err(turned_away)?,
-        fit: fit(struck, case.heights).map_err(turned_away)?,
+        bound: bound(invoices, case.heights)?,
+        fit: fit(struck, case.heights)?,
     })
 }
 

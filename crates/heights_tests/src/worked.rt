@@ -1,76 +1,17 @@
 // The worked days: what is told of each, and what is found where a cent or a height is another one.
-use crate::helpers::{Case, Found, expect, greatest};
+use crate::days::{chain, pair, pair_and_three, pair_or_three, three, two_rings};
+use crate::helpers::{Found, expect, greatest};
 use std::test::Fail;
 
 #[test]
 fn small_days(rt: HostRuntime) -> Result<(), Fail> {
     let cases = [
-        (
-            Case {
-                firms: 2,
-                from: &[0, 1],
-                to: &[1, 0],
-                amount: &[10, 7],
-                cents: &[7, 7],
-                heights: &[0, 1],
-            },
-            14,
-        ),
-        (
-            Case {
-                firms: 3,
-                from: &[0, 1, 2],
-                to: &[1, 2, 0],
-                amount: &[5, 4, 6],
-                cents: &[4, 4, 4],
-                heights: &[1, 2, 0],
-            },
-            12,
-        ),
-        (
-            Case {
-                firms: 3,
-                from: &[0, 1],
-                to: &[1, 2],
-                amount: &[5, 4],
-                cents: &[0, 0],
-                heights: &[0, 1, 2],
-            },
-            0,
-        ),
-        (
-            Case {
-                firms: 4,
-                from: &[0, 1, 2, 1, 3],
-                to: &[1, 2, 0, 3, 0],
-                amount: &[10, 6, 5, 8, 4],
-                cents: &[9, 5, 5, 4, 4],
-                heights: &[0, 1, 2, 2],
-            },
-            27,
-        ),
-        (
-            Case {
-                firms: 4,
-                from: &[0, 1, 1, 2, 3],
-                to: &[1, 0, 2, 3, 1],
-                amount: &[3, 3, 3, 3, 3],
-                cents: &[3, 3, 3, 3, 3],
-                heights: &[0, 0, 0, 0],
-            },
-            15,
-        ),
-        (
-            Case {
-                firms: 3,
-                from: &[0, 1, 2, 1],
-                to: &[1, 2, 0, 0],
-                amount: &[4, 4, 4, 4],
-                cents: &[4, 4, 4, 0],
-                heights: &[1, 0, 0],
-            },
-            12,
-        ),
+        (pair(&[7, 7], &[0, 1]), 14),
+        (three(&[4, 4, 4], &[1, 2, 0]), 12),
+        (chain(&[0, 0], &[0, 1, 2]), 0),
+        (two_rings(&[9, 5, 5, 4, 4], &[0, 1, 2, 2]), 27),
+        (pair_and_three(&[3, 3, 3, 3, 3], &[0, 0, 0, 0]), 15),
+        (pair_or_three(&[4, 4, 4, 0], &[1, 0, 0]), 12),
     ];
     for (case, total) in cases {
         expect(&rt, case, greatest(total))?;
@@ -83,14 +24,7 @@ fn small_days(rt: HostRuntime) -> Result<(), Fail> {
 fn other_cents_and_heights(rt: HostRuntime) -> Result<(), Fail> {
     let cases = [
         (
-            Case {
-                firms: 3,
-                from: &[0, 1],
-                to: &[1, 2],
-                amount: &[5, 4],
-                cents: &[0, 0],
-                heights: &[0, 0, 0],
-            },
+            chain(&[0, 0], &[0, 0, 0]),
             Found {
                 uneven: None,
                 total: 0,
@@ -99,14 +33,7 @@ fn other_cents_and_heights(rt: HostRuntime) -> Result<(), Fail> {
             },
         ),
         (
-            Case {
-                firms: 3,
-                from: &[0, 1, 2, 1],
-                to: &[1, 2, 0, 0],
-                amount: &[4, 4, 4, 4],
-                cents: &[4, 0, 0, 4],
-                heights: &[1, 0, 0],
-            },
+            pair_or_three(&[4, 0, 0, 4], &[1, 0, 0]),
             Found {
                 uneven: None,
                 total: 8,
@@ -115,14 +42,7 @@ fn other_cents_and_heights(rt: HostRuntime) -> Result<(), Fail> {
             },
         ),
         (
-            Case {
-                firms: 3,
-                from: &[0, 1, 2, 1],
-                to: &[1, 2, 0, 0],
-                amount: &[4, 4, 4, 4],
-                cents: &[4, 0, 0, 4],
-                heights: &[0, 0, 0],
-            },
+            pair_or_three(&[4, 0, 0, 4], &[0, 0, 0]),
             Found {
                 uneven: None,
                 total: 8,
@@ -131,14 +51,7 @@ fn other_cents_and_heights(rt: HostRuntime) -> Result<(), Fail> {
             },
         ),
         (
-            Case {
-                firms: 2,
-                from: &[0, 1],
-                to: &[1, 0],
-                amount: &[10, 7],
-                cents: &[7, 6],
-                heights: &[0, 1],
-            },
+            pair(&[7, 6], &[0, 1]),
             Found {
                 uneven: Some(0),
                 total: 13,
@@ -147,14 +60,7 @@ fn other_cents_and_heights(rt: HostRuntime) -> Result<(), Fail> {
             },
         ),
         (
-            Case {
-                firms: 4,
-                from: &[0, 1, 1, 2, 3],
-                to: &[1, 0, 2, 3, 1],
-                amount: &[3, 3, 3, 3, 3],
-                cents: &[3, 3, 3, 2, 3],
-                heights: &[0, 0, 0, 0],
-            },
+            pair_and_three(&[3, 3, 3, 2, 3], &[0, 0, 0, 0]),
             Found {
                 uneven: Some(2),
                 total: 14,
@@ -163,14 +69,7 @@ fn other_cents_and_heights(rt: HostRuntime) -> Result<(), Fail> {
             },
         ),
         (
-            Case {
-                firms: 3,
-                from: &[0, 1, 2],
-                to: &[1, 2, 0],
-                amount: &[5, 4, 6],
-                cents: &[3, 3, 3],
-                heights: &[1, 2, 0],
-            },
+            three(&[3, 3, 3], &[1, 2, 0]),
             Found {
                 uneven: None,
                 total: 9,
@@ -179,14 +78,7 @@ fn other_cents_and_heights(rt: HostRuntime) -> Result<(), Fail> {
             },
         ),
         (
-            Case {
-                firms: 3,
-                from: &[0, 1, 2],
-                to: &[1, 2, 0],
-                amount: &[5, 4, 6],
-                cents: &[4, 4, 4],
-                heights: &[2, 3, 1],
-            },
+            three(&[4, 4, 4], &[2, 3, 1]),
             Found {
                 uneven: None,
                 total: 12,
@@ -195,14 +87,7 @@ fn other_cents_and_heights(rt: HostRuntime) -> Result<(), Fail> {
             },
         ),
         (
-            Case {
-                firms: 3,
-                from: &[0, 1, 2],
-                to: &[1, 2, 0],
-                amount: &[5, 4, 6],
-                cents: &[4, 4, 4],
-                heights: &[1, 3, 0],
-            },
+            three(&[4, 4, 4], &[1, 3, 0]),
             Found {
                 uneven: None,
                 total: 12,

@@ -3,13 +3,16 @@ ghost use Rattle.setoff.specs.Strike.{Strikes};
 ghost use Rattle.setoff.specs.Rows.{day_in};
 
 use crate::invoices::Invoices;
+use thiserror::Error;
 
 // Why a row of numbers, each with a limit, does not fit.
-#[derive(Clone, Copy, PartialEq, Eq, Debug)]
+#[derive(Clone, Copy, PartialEq, Eq, Debug, Error)]
 pub enum Misfit {
-    // the row has not one number for each limit; how many it has
+    // how many numbers it has
+    #[error("the row has {0} numbers, and not one for each limit")]
     Length(usize),
-    // the place of the first number that is above its limit
+    // the place of the first one that is above its limit
+    #[error("number {0} of the row is above its limit")]
     Above(usize),
 }
 
