@@ -13,24 +13,25 @@ import sys
 ITEM = re.compile(r"^\s*(?:pub(?:\(crate\))? )?fn (\w+)")
 CLAUSE = re.compile(r"^\s*(?:requires|ensures)(?: \w+)? \{ (.*) \}$")
 
-# for each point: what is looked for, and the pattern of a line that has it
+# for each point: what is looked for, and the pattern of a line that has it, in the older spelling or in today's
 LINES = {
     1: [
-        ("a value that is thrown away, so that Some or Ok is a flag", r"let (Some|Ok|Err)\(_\)"),
+        ("a value that is thrown away, so that Some or Ok is a flag", r"let (Some|Ok|Err)\(_\)|let Ok\(Some\(_\)\)|\.ok\(\)|\|_\|"),
         ("a number for a kind or a refusal", r"=> \d+,$"),
-        ("a kind packed into a number, or 0 for none", r"% 2\b|\bstep == 0\b|as usize\] - 1;|usize - 1\)"),
-        ("a type with ghost facts made by hand after a test", r"^\s*(let \w+ = )?(Invoices|Struck) \{$|= Struck \{|\(Struck \{"),
+        ("a kind packed into a number, or 0 for none", r"% 2\b|\bstep == 0\b|as usize\] - 1;|usize - 1\)|\+ 1\) as u16|checked_sub\(1\)"),
+        ("a type with ghost facts made as a literal", r"^(?!.*(struct|impl)).*\b(Invoices|Struck|Network|Residual|Heights) \{( |$)"),
         ("a message that is printed apart from its error", r'eprintln!\(rt; "(clear|usage)'),
     ],
     3: [
-        ("a loop over an index or counted by hand", r"^\s*('\w+: )?for (?!_ )\w+ in \d+\.\.|^\s*\w+ \+= 1;|^\s*('\w+: )?loop \{"),
+        ("a loop over an index, or counted by hand", r"^\s*('\w+: )?for (?!_ )\w+ in \d+\.\.|^\s*\w+ \+= 1;|^\s*('\w+: )?loop \{"),
+        ("a loop or a chain that goes by number beside the thing itself", r"for \(\w+, .*enumerate\(\)|\(0\.\..*\)\.(map|all|any|find)\("),
     ],
     4: [
         ("equality, order, copying, conversion or printing as a function", r"fn (eq|ne|cmp|partial_cmp|clone|fmt|hash|from|try_from|number|place)\b"),
         ("a conversion that loses nothing, as a cast", r" as (usize|u64|u32|i64)\b"),
     ],
     6: [
-        ("a row with its length beside it", r"\b(ring|row): &(mut )?\[\w+\], m: usize"),
+        ("a row with its length beside it", r"\b(ring|row): &(mut )?\[\w+\], m: usize|fn (collect|follow|search)\("),
         ("fields that are rows or vectors", r"^\s*(pub(\(crate\))? )?\w+: (&'a (mut )?\[\w+\]|Vec<\w+>),$"),
     ],
     7: [

@@ -47,7 +47,7 @@ fn fill(file: &[u8], from: &mut [u16], to: &mut [u16], amount: &mut [u64])
 
 // Reads a day into the first places of three lent rows. Of the other lent memory only its room is looked at:
 // `room` counts the places in the invoices' other rows, in the firms' rows, and for rings.
-// The rows are plain slices and no struct, here and in the parts above, since a caller in C lends each by itself.
+// The rows are plain slices and no struct, here and in the parts above, so that a caller in C can lend each by itself.
 pub fn read(
     file: &[u8],
     from: &mut [u16],
