@@ -17,6 +17,7 @@ pub enum Unfit {
     Ring(usize),
 }
 
+// Whether a flow and scratch rows have their places for a network, or else the first row that doesn't.
 pub(crate) fn check(network: Network, flow: &[u64], scratch: &Scratch) -> Result<(), Unfit>
     ensures { MatchResult result (λ _. RowsFit (network_in network.entry) flow.now scratch.now) (λ u. Unfits (network_in network.entry) flow.now scratch.now u) }
 {

@@ -11,7 +11,7 @@ use crate::scratch::Scratch;
 use crate::ways::Way;
 
 impl Residual<'_> {
-    // Tries one step. What it leads to is one less than its tail's number where it goes back, and that can be below 0.
+    // Tries one step. Back on an arc that counts it leads to one less than its tail's number, and that can be below 0.
     fn try_step(self, way: Way, scratch: &mut Scratch) -> Option<u16>
         requires there { step_in way < 2 * length self.network.tail.now }
         requires number { Below self.network.nodes self.network.nodes scratch.old.number.now }
