@@ -3,6 +3,7 @@
 
 mod chains;
 mod improving;
+mod last_steps;
 mod network;
 mod residual;
 mod rows;

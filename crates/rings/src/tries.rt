@@ -20,13 +20,11 @@ impl Residual<'_> {
         ensures same { SameRows scratch.old scratch.new }
     {
         let step = self.step(way);
-        let head = usize::from(step.head);
         let reached = scratch.number[usize::from(step.tail)] + step.gain;
-        if step.room < self.least || reached <= scratch.number[head] {
+        if step.room < self.least || reached <= scratch.number[usize::from(step.head)] {
             return None;
         }
-        scratch.number[head] = reached;
-        scratch.last[head] = (way.number() + 1) as u16;
+        scratch.raise(step.head, reached, way);
         Some(step.head)
     }
 
