@@ -2,6 +2,7 @@
 #![tactic(auto)]
 
 mod chains;
+mod days;
 mod improving;
 mod last_steps;
 mod network;
