@@ -1,4 +1,5 @@
 pub mod Counted
+pub mod OfDay
 pub mod Gains
 pub mod Written
 pub mod Settled

@@ -1,5 +1,5 @@
 // Rings struck out until none is left: first such as have room for many cents, then for half as many, down to one. Taken as
-// they come, rings can strike out and give back a cent at a time, as often as there are cents; in scales they can't.
+// they come, rings can strike out and give back a cent at a time; in scales each strikes out at least its scale's cents.
 ghost use Rattle.std.specs.Prelude.{◌≤◌};
 ghost use Rattle.day.specs.Bills.{reads};
 ghost use Rattle.heights.specs.Network.{Circulation};
@@ -19,6 +19,7 @@ fn climb(network: Network, flow: &mut [u64], least: u64, scratch: &mut Scratch)
     ensures climbed { Climbed (network_in network.entry) least flow.old flow.new scratch.new }
     ensures same { SameRows scratch.old scratch.new }
 {
+    // rows that fit are never refused; a call without the test would need a `requires`, which no public call has
     'rings: while let Ok(Some(_)) = improve(network, flow, least, scratch) {}
 }
 

@@ -35,14 +35,7 @@ pub(crate) fn settle(
     ensures wiped { Wiped invoices.entry.firms scratch.new }
     ensures same { SameRows scratch.old scratch.new }
 {
-    let network = Network {
-        nodes: invoices.firms,
-        tail: invoices.from,
-        head: invoices.to,
-        capacity: invoices.amount,
-        counted: invoices.from.len(),
-    };
-    climb_in_scales(network, struck, scratch);
+    climb_in_scales(Network::from(invoices), struck, scratch);
     write_heights(scratch.number, height);
     scratch.number.fill(0);
     scratch.last.fill(0);

@@ -1,4 +1,5 @@
 pub mod Rows
+pub mod Days
 pub mod Ways
 pub mod Residual
 pub mod Scratch

@@ -4,22 +4,11 @@ ghost use Rattle.day.specs.Bills.{reads};
 ghost use Rattle.rings.specs.Chains.{tail_of, Returns, Closed, Followed};
 ghost use Rattle.rings.specs.Rows.{network_in};
 ghost use Rattle.rings.specs.Scratch.{RowsEach, RingWritten};
-ghost use Rattle.rings.specs.Ways.{LastIn};
 
 use crate::network::Network;
 use crate::scratch::Scratch;
-use crate::ways::Way;
 
 impl Scratch<'_> {
-    // The last step of a node.
-    fn last_step(&self, v: u16) -> Option<Way>
-        requires { v < length self.now.last.now }
-        ensures { LastIn (reads self.now.last.now v) result }
-    {
-        let held = u64::from(self.last[usize::from(v)]);
-        Some(Way::from(held.checked_sub(1)?))
-    }
-
     // Writes the steps of the ring on which a node lies, and returns how many they are.
     fn collect(&mut self, network: Network, start: u16) -> usize
         requires there { start < network.nodes }

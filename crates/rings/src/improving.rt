@@ -13,7 +13,8 @@ use crate::striking::push;
 // Looks for a ring whose steps all have room for `least` cents, one at least, strikes out along it as much as its smallest
 // room allows, and returns how much that is. Where there is none, the flow stays as it is and the numbers are potentials by
 // which no such step would gain.
-// The flow is no part of the scratch: it is read in the residual graph while the scratch is written.
+// Three parameters: the network is only read, and the flow, which is the answer, is read in the residual graph while the
+// scratch is written.
 pub fn improve(
     network: Network,
     flow: &mut [u64],

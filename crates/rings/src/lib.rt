@@ -2,7 +2,9 @@
 #![tactic(auto)]
 
 mod chains;
+mod days;
 mod improving;
+mod last_steps;
 mod network;
 mod residual;
 mod rows;

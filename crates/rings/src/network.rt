@@ -2,7 +2,7 @@
 ghost use Rattle.std.specs.Prelude.{◌≡◌, ℕ, ◌^◌, ◌<◌, ◌≤◌, length};
 ghost use Rattle.day.specs.Bills.{reads};
 
-// A day is the network in which every arc counts. A limit on a firm and lent cash are arcs that count nothing.
+// A day is the network in which every arc counts. Other networks may have arcs that count nothing.
 #[derive(Clone, Copy)]
 pub struct Network<'a> {
     pub nodes: u16,
@@ -14,7 +14,7 @@ pub struct Network<'a> {
     // each row has a place for each arc
     ghost head_each: { length head.now ≡ length tail.now },
     ghost capacity_each: { length capacity.now ≡ length tail.now },
-    // numbers of nodes and of steps stay small
+    // there is a node, and the numbers of nodes and of steps stay small
     ghost some_node: { 1 ≤ nodes },
     ghost few_nodes: { nodes ≤ 4096 },
     ghost few_arcs: { length tail.now ≤ 16384 },

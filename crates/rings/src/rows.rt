@@ -1,4 +1,5 @@
 // Whether lent rows have a place for each arc or node of a network.
+ghost use Rattle.std.specs.Prelude.{◌≡◌, ◌≢◌};
 ghost use Rattle.std.specs.Result.{MatchResult};
 ghost use Rattle.rings.specs.Improving.{RowsFit, Unfits};
 ghost use Rattle.rings.specs.Rows.{network_in};
@@ -17,20 +18,23 @@ pub enum Unfit {
     Ring(usize),
 }
 
+// Whether a row has just the places that it has to have; if not, its length.
+fn each(len: usize, places: usize) -> Result<(), usize>
+    ensures { MatchResult result (λ _. len ≡ places) (λ l. (l ≡ len) × (len ≢ places)) }
+{
+    if len != places {
+        return Err(len);
+    }
+    Ok(())
+}
+
+// Whether a flow and scratch rows have their places for a network, or else the first row that doesn't.
 pub(crate) fn check(network: Network, flow: &[u64], scratch: &Scratch) -> Result<(), Unfit>
     ensures { MatchResult result (λ _. RowsFit (network_in network.entry) flow.now scratch.now) (λ u. Unfits (network_in network.entry) flow.now scratch.now u) }
 {
     let nodes = usize::from(network.nodes);
-    match (
-        flow.len(),
-        scratch.number.len(),
-        scratch.last.len(),
-        scratch.ring.len(),
-    ) {
-        (len, ..) if len != network.tail.len() => Err(Unfit::Flow(len)),
-        (_, len, ..) if len != nodes => Err(Unfit::Number(len)),
-        (.., len, _) if len != nodes => Err(Unfit::Last(len)),
-        (.., len) if len != nodes => Err(Unfit::Ring(len)),
-        _ => Ok(()),
-    }
+    each(flow.len(), network.tail.len()).map_err(Unfit::Flow)?;
+    each(scratch.number.len(), nodes).map_err(Unfit::Number)?;
+    each(scratch.last.len(), nodes).map_err(Unfit::Last)?;
+    each(scratch.ring.len(), nodes).map_err(Unfit::Ring)
 }

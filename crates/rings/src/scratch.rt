@@ -1,7 +1,10 @@
 // What a search is lent to work in.
 
 // Rows of plain numbers, since lent memory is such, each with a place for each node.
-// A function that is lent one promises `SameRows`: without that its caller would not know its own rows after.
+// A function that is lent one promises `SameRows`, or its caller would not know its own rows after. It says before against
+// after, which no ghost field can.
+// That the lengths fit is tested by `improve` and is no ghost field: that would ask it of every caller, and `improve` could
+// not refuse.
 #[derive(Drop)]
 pub struct Scratch<'a> {
     // the node's number

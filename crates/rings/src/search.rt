@@ -9,10 +9,10 @@ use crate::scratch::Scratch;
 
 impl Residual<'_> {
     // Looks for a ring whose steps all have room for `least` cents. Writes its steps and returns how many they are; where there
-    // is none, the numbers are potentials by which no step would gain.
+    // is none, the numbers are potentials by which no such step would gain.
     //
-    // After each round the last steps are followed back from the node that was raised last: a ring that they have closed by then
-    // is found many rounds early. A number that reaches the number of nodes has a ring behind it, and ends the search at once.
+    // After each round the last steps are followed back from the node that was raised last, and where they lead into a ring,
+    // the search ends with it. A number that reaches the number of nodes has a ring behind it, and ends the search at once.
     pub(crate) fn search(self, scratch: &mut Scratch) -> Option<usize>
         requires { RowsEach self.network.nodes scratch.old }
         ensures searches { Searches (residual_in self.entry) scratch.new result }
@@ -35,7 +35,7 @@ impl Residual<'_> {
                 }
             }
             if let Some(v) = raised {
-                // no chain of `let`s: tried, and past it `rounds-preserved` did not know that none was found
+                // nested: after a chain of `let`s, which was tried, the proof does not know that no ring was found
                 if let Some(m) = scratch.follow(network, v) {
                     found = Some(m);
                     break 'rounds;

@@ -15,6 +15,7 @@ impl Residual<'_> {
         requires there { (j : ℕ) → j < length ring.now → reads ring.now j < 2 * length self.network.tail.now }
         ensures { Smallest (residual_in self.entry).room (reads ring.now) (length ring.now) result }
     {
+        // a `for`: with a chain ended by `min`, which was tried, that `min` may be called and what it returns stayed open
         let mut smallest = u64::MAX;
         for step in ring {
             smallest = smallest.min(self.step(Way::from(*step)).room);

@@ -11,7 +11,7 @@ use crate::scratch::Scratch;
 use crate::ways::Way;
 
 impl Residual<'_> {
-    // Tries one step. What it leads to is one less than its tail's number where it goes back, and that can be below 0.
+    // Tries one step. Back on an arc that counts it leads to one less than its tail's number, and that can be below 0.
     fn try_step(self, way: Way, scratch: &mut Scratch) -> Option<u16>
         requires there { step_in way < 2 * length self.network.tail.now }
         requires number { Below self.network.nodes self.network.nodes scratch.old.number.now }
@@ -20,13 +20,11 @@ impl Residual<'_> {
         ensures same { SameRows scratch.old scratch.new }
     {
         let step = self.step(way);
-        let head = usize::from(step.head);
         let reached = scratch.number[usize::from(step.tail)] + step.gain;
-        if step.room < self.least || reached <= scratch.number[head] {
+        if step.room < self.least || reached <= scratch.number[usize::from(step.head)] {
             return None;
         }
-        scratch.number[head] = reached;
-        scratch.last[head] = (way.number() + 1) as u16;
+        scratch.raise(step.head, reached, way);
         Some(step.head)
     }
 

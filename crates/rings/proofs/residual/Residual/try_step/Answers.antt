@@ -28,13 +28,13 @@ returns-clause-tried c =
     let S = residual_in c.args.self in
     let f = step_in c.args.way in
     let tail = c.from.result in
-    let head = c.from-head.result in
+    let head = c.from-else-step-self.result in
     let numbers = c.requires.number in
     let few = c.args.self.network.few_nodes in
     let tail_there : tail < S.nodes = omega (arith, is.tail_there, c.from.ensures) in
-    let head_there : head < S.nodes = omega (arith, is.head_there, c.from-head.ensures) in
+    let head_there : head < S.nodes = omega (arith, is.head_there, c.from-else-step-self.ensures) in
     let at_tail = ap (levels num) (c.from.ensures ∙ is.tail) in
-    let at_head = ap (levels num) (c.from-head.ensures ∙ is.head) in
+    let at_head = ap (levels num) (c.from-else-step-self.ensures ∙ is.head) in
     let law = lawful c.args.self in
     let gains : levels num head + S.down f < levels num tail + S.up f
     = higher (get_or num tail (pos 0)) step.gain (get_or num head (pos 0)) (levels num tail) (levels num head) (S.up f) (S.down f)
@@ -45,12 +45,10 @@ returns-clause-tried c =
       node = is.head;
       gains = omega arith;
       number =
-          ap (λ v. set num v (reached (get_or num tail (pos 0)) step.gain)) c.from-head.ensures
+          c.raise.ensures.number
           ∙ ap (set num step.head)
           (exact (get_or num tail (pos 0)) step.gain (levels num tail) (S.up f) (S.down f) (numbers.exact tail tail_there)
           (omega (arith, numbers.low tail tail_there)) (law.small f) (law.small_down f) is.gain (omega arith)
           ∙ ap (λ x. pos ((x + S.up f) - S.down f)) at_tail);
-      step =
-          ap (λ v. set c.args.scratch.now.last.now v (c.number.result + 1)) c.from-head.ensures
-          ∙ ap (λ x. set c.args.scratch.now.last.now step.head (x + 1)) c.number.ensures;
+      step = c.raise.ensures.last;
     }
