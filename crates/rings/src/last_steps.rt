@@ -24,6 +24,7 @@ impl Scratch<'_> {
         requires fits { step_in way + 1 < 2 ^ 16 }
         ensures number { self.new.number.now ≡ slice_set self.old.number.now v number }
         ensures last { self.new.last.now ≡ slice_set self.old.last.now v (step_in way + 1) }
+        ensures ring { self.new.ring.now ≡ self.old.ring.now }
         ensures same { SameRows self.old self.new }
     {
         let v = usize::from(v);

@@ -17,6 +17,7 @@ impl Residual<'_> {
         requires number { Below self.network.nodes self.network.nodes scratch.old.number.now }
         requires last { length scratch.old.last.now ≡ self.network.nodes }
         ensures tried { Tried (residual_in self.entry) (step_in way) scratch.old scratch.new result }
+        ensures ring { scratch.new.ring.now ≡ scratch.old.ring.now }
         ensures same { SameRows scratch.old scratch.new }
     {
         let step = self.step(way);
@@ -34,6 +35,7 @@ impl Residual<'_> {
         requires number { Below self.network.nodes self.network.nodes scratch.old.number.now }
         requires last { length scratch.old.last.now ≡ self.network.nodes }
         ensures tried { ArcTried (residual_in self.entry) e scratch.old scratch.new result }
+        ensures ring { scratch.new.ring.now ≡ scratch.old.ring.now }
         ensures same { SameRows scratch.old scratch.new }
     {
         if let Some(v) = self.try_step(Way::Along(e), scratch) {
