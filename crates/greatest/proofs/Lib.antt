@@ -1,5 +1,4 @@
 pub mod Counted
 pub mod OfDay
 pub mod Gains
-pub mod Written
 pub mod Settled
