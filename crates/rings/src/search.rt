@@ -13,6 +13,9 @@ impl Residual<'_> {
     //
     // After each round the last steps are followed back from the node that was raised last, and where they lead into a ring,
     // the search ends with it. A number that reaches the number of nodes has a ring behind it, and ends the search at once.
+    //
+    // It returns how many steps there are, and not the steps as an `Option<&[u64]>` out of `scratch.ring`: so tried, a caller
+    // knew them but not the rows of the scratch after, and a clause on those gets no proof where the body writes first.
     pub(crate) fn search(self, scratch: &mut Scratch) -> Option<usize>
         requires { RowsEach self.network.nodes scratch.old }
         ensures searches { Searches (residual_in self.entry) scratch.new result }
