@@ -6,6 +6,7 @@ use std::test::Fail;
 
 pub(crate) type Answer = Result<Size, Refusal>;
 
+// Ample for every day of the tests. A constant calls no function, so its numbers stand here.
 pub(crate) const AMPLE: Room = Room {
     invoices: 10_000,
     numbers: 512,

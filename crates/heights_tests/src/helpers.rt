@@ -4,7 +4,7 @@ use setoff::{Invoices, Misfit, Struck, within};
 use std::process::Abort;
 use std::test::Fail;
 
-// A day, what is struck out of its invoices, and a height for each firm.
+// A day, what is struck out of its invoices, and a height for each firm, in rows as the library takes them.
 #[derive(Clone, Copy)]
 pub(crate) struct Case<'a> {
     pub(crate) firms: u16,

@@ -10,6 +10,7 @@ pub(crate) enum Way {
     Back(usize),
 }
 
+// By casts: between u64 and usize there is no `From`.
 impl From<u64> for Way {
     fn from(step: u64) -> Way
         ensures { step_in result ≡ step }

@@ -35,6 +35,7 @@ impl Struck<'_> {
             sums[usize::from(self.invoices.from[e])].let_off += cents;
             sums[usize::from(self.invoices.to[e])].lets_off += cents;
         }
+        // the answer is a firm's number
         (0..self.invoices.firms).find(|&v| !sums[usize::from(v)].is_even())
     }
 }
