@@ -12,14 +12,15 @@ use setoff::Invoices;
 use std::alloc::Global;
 use sums::time_sums;
 
-// By casts, since a constant calls no function.
+// Room for the largest day. A constant calls no function, so its numbers stand here, by casts.
 const AMPLE: Room = Room {
     invoices: MOST_INVOICES,
     numbers: MOST_FIRMS as usize,
     rings: MOST_FIRMS as usize + 2,
 };
 
-// As many invoices as a day may have, spread over all firms, by the generator of the tests' days: these few lines are in both.
+// As many invoices as a day may have, spread over all firms, by the generator of the tests' days: a crate for these few
+// lines would be no plainer.
 fn largest(heap: Global) -> Result<Vec<Invoice>> {
     let mut invoices = Vec::new(heap);
     let mut seed = 1u64;

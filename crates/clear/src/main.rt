@@ -26,6 +26,7 @@ fn judge(heap: Global, file: &[u8]) -> Result<Result<Size, Refusal>, AllocError>
     let mut from = vec![in heap; 0u16; invoices]?;
     let mut to = vec![in heap; 0u16; invoices]?;
     let mut amount = vec![in heap; 0u64; invoices]?;
+    // for just this file's invoices, so that it is no constant
     let room = Room {
         invoices,
         numbers: firms,

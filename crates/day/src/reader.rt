@@ -28,7 +28,8 @@ fn judge(file: &[u8], from: &[u16], to: &[u16], amount: &[u64], room: Room) -> R
     check(file, room)
 }
 
-// Writes the file's invoices into the first places of three rows, by index: the proof doesn't know what went through `iter_mut`.
+// Writes the file's invoices into the first places of three rows, by index: of what goes through `iter_mut` the proof
+// doesn't know what is in a row after.
 fn fill(file: &[u8], from: &mut [u16], to: &mut [u16], amount: &mut [u64])
     requires { Writable file.now from.old to.old amount.old }
     ensures from { from.new ≡ row_read (debtors (invoices_in file.now)) from.old }

@@ -6,7 +6,8 @@ ghost use Rattle.day.specs.Text.{refusal_text};
 use std::error::Error;
 use std::fmt;
 
-// The kinds of lent memory, in the order in which their room is looked at, with the number that is told of each.
+// The kinds of lent memory, in the order in which their room is looked at, with the number that is told of each: its
+// discriminant, which a cast reads.
 #[derive(Clone, Copy, PartialEq, Eq, Debug)]
 pub enum Kind {
     Invoices = 0,
@@ -51,6 +52,7 @@ impl Refusal {
         ensures { result ≡ place_of self }
     {
         match self {
+            // it has no place
             Refusal::Firms => 0,
             Refusal::Length(place)
             | Refusal::NoFirm(place)

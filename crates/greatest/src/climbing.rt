@@ -11,7 +11,7 @@ ghost use Rattle.greatest.specs.Climbing.{Climbed, Largest};
 use rings::{Network, Scratch, improve};
 
 // Strikes out rings whose steps all have room for `least` cents, until there is none. Each leaves fewer cents that can still
-// be struck out.
+// be struck out. Network, flow and scratch are three parameters as they are for `improve`.
 fn climb(network: Network, flow: &mut [u64], least: u64, scratch: &mut Scratch)
     requires some { 1 ≤ least }
     requires rows { RowsFit (network_in network) flow.old scratch.old }
@@ -19,7 +19,8 @@ fn climb(network: Network, flow: &mut [u64], least: u64, scratch: &mut Scratch)
     ensures climbed { Climbed (network_in network.entry) least flow.old flow.new scratch.new }
     ensures same { SameRows scratch.old scratch.new }
 {
-    // rows that fit are never refused; a call without the test would need a `requires`, which no public call has
+    // how many cents a ring took is of no use here, and rows that fit are never refused; a call without the test would need a
+    // `requires`, which no public call has
     'rings: while let Ok(Some(_)) = improve(network, flow, least, scratch) {}
 }
 

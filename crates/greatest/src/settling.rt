@@ -10,8 +10,8 @@ use crate::climbing::climb_in_scales;
 use rings::{Network, Scratch};
 use setoff::{Invoices, Struck};
 
-// Where no ring is left the numbers of the search, signed until then, are the heights. They are written by index: the
-// proof doesn't know what went through `iter_mut`.
+// Where no ring is left the numbers of the search, signed until then, are the heights. They are written by index: of
+// what goes through `iter_mut`, which was tried, the proof doesn't know what is in the row after.
 fn write_heights(number: &[i32], height: &mut [u16])
     requires each { length height.old ≡ length number.now }
     requires low { Below 4096 (length number.now) number.now }

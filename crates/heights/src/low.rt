@@ -16,7 +16,8 @@ pub(crate) struct Heights<'d, 'h> {
 }
 
 impl<'d, 'h> Heights<'d, 'h> {
-    // A row as the heights of the day's firms, or why it is turned away.
+    // A row as the heights of the day's firms, or why it is turned away. `setoff::within` looks through cents in the same way,
+    // and says why they are two.
     pub(crate) fn new(invoices: Invoices<'d>, of_firm: &'h [u16]) -> Result<Self, Misfit>
         ensures { MatchResult result
             (λ h. (h.invoices ≡ invoices.entry) × (h.of_firm.now ≡ of_firm.now))

@@ -9,7 +9,7 @@ use crate::network::Network;
 use crate::scratch::Scratch;
 
 impl Scratch<'_> {
-    // Writes the steps of the ring on which a node lies, and returns how many they are.
+    // Writes the steps of the ring on which a node lies, and returns how many they are, as the search does and for its reason.
     fn collect(&mut self, network: Network, start: u16) -> usize
         requires there { start < network.nodes }
         requires rows { RowsEach network.nodes self.old }

@@ -25,6 +25,7 @@ pub fn improve(
     ensures same { SameRows scratch.old scratch.new }
 {
     check(network, flow, scratch)?;
+    // a literal: `check` has just found the length, and nothing else makes one
     let residual = Residual {
         network,
         flow,

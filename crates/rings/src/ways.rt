@@ -2,8 +2,8 @@
 ghost use Rattle.std.specs.Prelude.{◌≡◌, ◌^◌, ◌<◌};
 ghost use Rattle.rings.specs.Ways.{step_in};
 
-// That its arc is one of the network is asked by the three functions that need it: a way that held its network would carry it
-// through the innermost loop.
+// That its arc is one of the network is asked by the three functions that need it: a way that held its network would be
+// five fields in place of a number.
 #[derive(Clone, Copy)]
 pub(crate) enum Way {
     Along(usize),

@@ -16,7 +16,7 @@ pub struct Invoices<'a> {
 }
 
 impl<'a> Invoices<'a> {
-    // These rows, where they are a sound day.
+    // These rows, where they are a sound day. They come one by one, as a caller lends them.
     pub fn new(firms: u16, from: &'a [u16], to: &'a [u16], amount: &'a [u64]) -> Option<Self>
         ensures some { IsSome result ↔ SoundRows firms from.now to.now amount.now }
         ensures rows { IfSome result (λ i. (i.firms ≡ firms) × (i.from.now ≡ from.now) × (i.to.now ≡ to.now) × (i.amount.now ≡ amount.now)) }

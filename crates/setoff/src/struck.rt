@@ -1,4 +1,4 @@
-// What is struck out of each invoice of a day, within the invoice by its type.
+// What is struck out of each invoice of a day, in a lent row, within the invoice by its type.
 ghost use Rattle.std.specs.Prelude.{◌≡◌, ℕ, ◌<◌, ◌≤◌, length, MatchResult};
 ghost use Rattle.day.specs.Bills.{reads};
 ghost use Rattle.setoff.specs.Strike.{Misfits};
