@@ -5,7 +5,7 @@
 mod clock;
 mod sums;
 
-use anyhow::{Context, Result, ensure};
+use anyhow::{Context, Result};
 use clock::time;
 use day::{Invoice, MOST_CENTS, MOST_FIRMS, MOST_INVOICES, Room};
 use setoff::Invoices;
@@ -47,8 +47,7 @@ fn main(rt: HostRuntime) -> Result<()> {
     let mut to = vec![in heap; 0u16; MOST_INVOICES]?;
     let mut amount = vec![in heap; 0u64; MOST_INVOICES]?;
     time(&rt, "read", || {
-        let answer = day::read(&file, &mut from, &mut to, &mut amount, AMPLE);
-        ensure!(answer.is_ok(), "the day was refused");
+        day::read(&file, &mut from, &mut to, &mut amount, AMPLE).context("the day was refused")?;
         Ok(())
     })?;
     let invoices = Invoices::new(MOST_FIRMS, &from, &to, &amount).context(
