@@ -37,6 +37,18 @@ fn read_back(rt: HostRuntime) -> Result<(), Fail> {
     Ok(())
 }
 
+// A file takes as much memory as it has bytes.
+#[test]
+fn no_more_memory(rt: HostRuntime) -> Result<(), Fail> {
+    let heap = rt.alloc();
+    for invoices in [0, 1, 5, 341] {
+        let many = vec![in heap; invoice(0, 1, 7); invoices]?;
+        let file = day::write(heap, 2, &many)?;
+        assert_eq!(rt; file.capacity(), file.len());
+    }
+    Ok(())
+}
+
 #[test]
 fn lines(rt: HostRuntime) -> Result<(), Fail> {
     let cases = [

@@ -37,7 +37,7 @@ apart_or_repeat u (suc k) = elim (apart_or_repeat u k) [
 ]
 
 -- at most n numbers below n differ
-few_apart : (u : ℕ → ℕ) (k n : ℕ) → ((j : ℕ) → j < k → u j < n) → ApartBelow u k → k ≤ n
+pub few_apart : (u : ℕ → ℕ) (k n : ℕ) → ((j : ℕ) → j < k → u j < n) → ApartBelow u k → k ≤ n
 few_apart u k n there apart =
     let xs = map u (range_with_len 0 k) in
     let long : length xs ≡ k = length-map-range_with_len u 0 k in

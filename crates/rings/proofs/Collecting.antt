@@ -19,7 +19,7 @@ module _ (tail last : ℕ → ℕ) (start : ℕ) where
       early : m < r.period
       early = elim (cases_lt m r.period) [ inl before ↦ before | inr past ↦ absurd (so_far.first r.period r.some past r.closes) ]
 
-      room : m < n
+      pub room : m < n
       room = omega (arith, early, r.few)
 
     module _ (n : ℕ) (r : Returns n tail last start) (each : length ring ≡ n) (step next : ℕ) (is : last at ≡ suc step) (leads : next ≡ tail step) where

@@ -34,7 +34,7 @@ row-set f d row v x there = λ i w. at w i
 pub levels-set : (row : List ℤ) (v x : ℕ) → v < length row → put (levels row) v x ≡ levels (set row v (pos x))
 levels-set row v x there = row-set natural (pos 0) row v (pos x) there
 
-reads-set : (row : List ℕ) (v x : ℕ) → v < length row → put (reads row) v x ≡ reads (set row v x)
+pub reads-set : (row : List ℕ) (v x : ℕ) → v < length row → put (reads row) v x ≡ reads (set row v x)
 reads-set row v x there = row-set (λ n. n) 0 row v x there
 
 module _ (S : Steps) (k : ℕ) where

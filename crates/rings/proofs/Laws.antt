@@ -27,7 +27,7 @@ down false true = omega arith
 down false false = omega arith
 
 -- step 2e + 1 is step 2e the other way round
-opposite : (N : Network) (s : ℕ → ℕ) (least e : ℕ) → Opposite (residual N s least) (2 * e) (2 * e + 1)
+pub opposite : (N : Network) (s : ℕ → ℕ) (least e : ℕ) → Opposite (residual N s least) (2 * e) (2 * e + 1)
 opposite N s least e =
     let forth : along (2 * e) ≡ true = eq-eqb ((2 * e) % 2) 0 (omega arith) in
     let back : along (2 * e + 1) ≡ false = ne_eqb ((2 * e + 1) % 2) 0 (omega arith) in

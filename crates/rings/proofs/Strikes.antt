@@ -43,7 +43,7 @@ pub backward : (f : ℕ) → f % 2 ≢ 0 → along f ≡ false
 backward f e = ne_eqb (f % 2) 0 e
 
 -- a ring that gains has room for the smallest room of its steps, cents that fit the row
-narrowed : (N : Network) (s : ℕ → ℕ) (least m c : ℕ) (u at : ℕ → ℕ) → Gaining (residual N s least) m u at → ((j : ℕ) → j < m → c ≤ room_of N s (at j)) →
+pub narrowed : (N : Network) (s : ℕ → ℕ) (least m c : ℕ) (u at : ℕ → ℕ) → Gaining (residual N s least) m u at → ((j : ℕ) → j < m → c ≤ room_of N s (at j)) →
     Gaining (residual N s c) m u at
 narrowed N s least m c u at ring room =
     record {
@@ -74,7 +74,7 @@ shortened S m u ring fits found = subst (λ k. Gaining S k u at) (sym (length-ta
     same : (j : ℕ) → j < m → at j ≡ reads ring j
     same j l = get_or-take m ring j 0 l
 
-pushable : (N : Network) (s : ℕ → ℕ) (m c : ℕ) (u at : ℕ → ℕ) → 1 ≤ c → ((e : ℕ) → e < N.arcs → N.capacity e < 2 ^ 64) → Gaining (residual N s c) m u at → Pushable N.arcs s at m c
+pub pushable : (N : Network) (s : ℕ → ℕ) (m c : ℕ) (u at : ℕ → ℕ) → 1 ≤ c → ((e : ℕ) → e < N.arcs → N.capacity e < 2 ^ 64) → Gaining (residual N s c) m u at → Pushable N.arcs s at m c
 pushable N s m c u at some fits ring =
     record {
       there = λ j l. omega (arith, (ring.there j l).0);

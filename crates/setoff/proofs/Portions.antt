@@ -40,6 +40,7 @@ module _ (s : Struck) where
   share_fits firm v k h =
       omega (arith, share_bound firm (reads s.cents.now) v (10 ^ 12) k (λ e l. few_struck e (omega arith)), s.cents_each, s.invoices.sound.sound.few_invoices)
 
-  -- also with one invoice more, at which the firm stands
-  pub more_fits : (firm : ℕ → ℕ) (v k : ℕ) → k < length s.cents.now → firm k ≡ v → share firm (reads s.cents.now) v k + reads s.cents.now k < 2 ^ 64
-  more_fits firm v k h same = omega (arith, share_same firm (reads s.cents.now) v k same, share_fits firm v (k + 1) (omega arith))
+  -- also with one invoice more, at whichever firm
+  pub more_fits : (firm : ℕ → ℕ) (v k : ℕ) → k < length s.cents.now → share firm (reads s.cents.now) v k + reads s.cents.now k < 2 ^ 64
+  more_fits firm v k h =
+      omega (arith, share_bound firm (reads s.cents.now) v (10 ^ 12) k (λ e l. few_struck e (omega arith)), few_struck k h, s.cents_each, s.invoices.sound.sound.few_invoices)

@@ -82,10 +82,10 @@ module _ (s : Struck) (row : List Sums) (k : ℕ) (other : Sums) (h : k < length
   owing_fits shows =
       let from = reads s.invoices.from.now in
       let is = ap (λ (x : Sums). x.let_off) (shows.at (from k) other (from_placed s k h)) in
-      omega (arith, more_fits s from (from k) k h refl)
+      omega (arith, more_fits s from (from k) k h)
 
   pub owed_fits : Shows (sums_of s (k + 1) k) row → Fits w64 ((slice_index_or row (reads s.invoices.to.now k) other).lets_off + reads s.cents.now k)
   owed_fits shows =
       let to = reads s.invoices.to.now in
       let is = ap (λ (x : Sums). x.lets_off) (shows.at (to k) other (to_placed s k h)) in
-      omega (arith, more_fits s to (to k) k h refl)
+      omega (arith, more_fits s to (to k) k h)

@@ -12,7 +12,7 @@ pub loop-invoice-preserved : goal.loop-invoice-preserved
 loop-invoice-preserved c =
     let is = c.args.invoices.now in
     let k = c.loop-invoice.invoice-index in
-    let added = c.in_ok-extend_from_slice.ensures.items ∙ ap (λ (bytes : List ℕ). vec_items c.loop-invoice.file ++ bytes) c.from.ensures.0 in (
+    let added = c.in_ok-extend_from_slice-2.ensures.items ∙ ap (λ (bytes : List ℕ). vec_items c.loop-invoice.file ++ bytes) c.from.ensures.0 in (
       written_more c.args.firms is k _ _ (omega arith) c.loop-invoice.invariant.0 added,
       All-more Fits is k blank (omega arith) c.loop-invoice.invariant.1 c.from.ensures.1,
     )
